@@ -1,47 +1,28 @@
 -- The blocks of a chunk with copies, one after another.
-use Rattle.std.proofs.Common.{◌≡◌, ℕ, ◌+◌, ◌<◌, ◌≤◌, Bool, true, false, cond, List, [], ◌∷◌, ◌++◌, map, length, get_or, slice_get, Option, Some, None, IsSome}
-use Rattle.std.proofs.Common.{is_some, Result, Ok, Err, IsOk, refl, sym, ap, ◌∙◌, subst, inl, inr, arith, append_assoc, append-nil}
-use Rattle.std.proofs.lemmas.Bool.{false≢true, cases_order, eq-eqb, eqb-true, false_from_ne_true}
+use Rattle.std.proofs.Common.{◌≡◌, ℕ, ◌+◌, ◌<◌, ◌≤◌, Bool, false, cond, List, [], ◌∷◌, ◌++◌, map, length, get_or, slice_get, Option, Some, None, IsSome}
+use Rattle.std.proofs.Common.{is_some, Result, Ok, Err, IsOk, refl, sym, ap, ◌∙◌, subst, inl, inr, arith, append_assoc}
+use Rattle.btr_scrub.proofs.Common.{AreApart, BeginsBehind, Chunk, Failing, Fault, HasPart, HaveLengths, HaveOwnSlots, Images, IsPastChunk, IsSought, IsTable}
+use Rattle.btr_scrub.proofs.Common.{Layout, MendFault, Mirror, Part, Scrubs, Seen, Tally, Target, Want, addr_of, alone, cons_option, count_site, device_in}
+use Rattle.btr_scrub.proofs.Common.{eq-eqb, eqb-true, facts, false_from_ne_true, false≢true, filter, first_missing, flat_map, get_or-map, in_either}
+use Rattle.btr_scrub.proofs.Common.{is_in_chunk, len_of, length-map, mending_writes, mirrors, missing_stripes, ok_or_none, place_at, range_of, range_on}
+use Rattle.btr_scrub.proofs.Common.{range_stands, same_Some, sites_count, sites_in, sites_writes, size_of, sought, sought_of, stands_on, stripe_length}
+use Rattle.btr_scrub.proofs.Common.{targets}
+use Rattle.std.proofs.lemmas.Bool.{cases_order}
 use Rattle.std.proofs.lemmas.List.Elements.{filter-append, filter_map-append}
-use Rattle.std.proofs.lemmas.List.{get_or-map, length-map}
-use Rattle.std.proofs.lemmas.Option.{same_Some}
-use Rattle.std.specs.List.{cons_option, filter, flat_map}
-use Rattle.btr_chunk.specs.Chunk.{mirrors, stripe_length}
-use Rattle.btr_chunk.specs.Mapping.{HasPart, place_at}
-use Rattle.btr_chunk.specs.declared.place.Part.{Part}
-use Rattle.btr_chunk.specs.declared.place.Part.TheVariants.{Mirror}
-use Rattle.btr_chunk.specs.Table.{IsTable}
-use Rattle.btr_chunk.specs.declared.chunk.Chunk.{Chunk}
-use Rattle.btr_rack.specs.Rack.{IsRack, Seen, Slot, no_slot}
-use Rattle.btr_read.specs.Candidates.{Target, range_of, range_on, size_of}
-use Rattle.btr_read.specs.Fate.{Fault, sought}
-use Rattle.btr_read.specs.Layout.{AreOpen, HaveOwnSlots, Layout, device_in}
-use Rattle.btr_read.specs.Want.{addr_of, len_of}
-use Rattle.btr_read.specs.declared.want.Want.{Want}
+use Rattle.btr_rack.specs.Rack.{IsRack, Slot, no_slot}
+use Rattle.btr_read.specs.Layout.{AreOpen}
 use Rattle.btr_scrub_copies.specs.Mending.{IsCopied}
-use Rattle.btr_scrub_copies.specs.declared.mended.MendFault.{MendFault}
-use Rattle.btr_scrub_copies.specs.Writes.{Images}
-use Rattle.btr_scrub_row.specs.Wanted.{mending_writes}
 use Rattle.btr_scrub.specs.BlocksInRows.{In}
-use Rattle.btr_scrub.specs.Order.{AreApart, IsSought, targets}
-use Rattle.btr_scrub_copies.specs.Fresh.{Failing}
-use Rattle.btr_scrub.specs.Repair.{first_missing, is_in_chunk, is_missing, missing_stripes, ok_or_none}
-use Rattle.btr_scrub.specs.Scrubbing.{BeginsBehind, IsPastChunk, Scrubs, count_site, sites_count, sites_in, sites_writes}
-use Rattle.btr_scrub.specs.Devices.{HaveLengths}
-use Rattle.btr_scrub.specs.WrittenRanges.{alone}
-use Rattle.btr_scrub.specs.declared.tally.Tally.{Tally}
+use Rattle.btr_scrub.specs.Repair.{is_missing}
 use Rattle.btr_scrub.proofs.Scrubbing.{IsUnmoved, scrubs_none, told}
-use Rattle.btr_chunk.proofs.Rule.{facts}
-use Rattle.btr_read.proofs.Fates.{sought_of}
 use Rattle.btr_scrub.proofs.Positions.{is_sought, on_stripe, IsCopyByte, bounds_of, shares}
-use Rattle.btr_scrub_row.proofs.Elements.{range_stands, stands_on}
 use Rattle.btr_scrub.proofs.CopyWrites.{site_stays, written_byte}
 use Rattle.btr_scrub.proofs.Shorts.{site_short}
 use Rattle.btr_scrub.proofs.Pasting.{unmoved_by}
 use Rattle.btr_scrub.proofs.Lists.{some_of, some_if, in_flat, in_some, in_filter}
-use Rattle.btr_read.proofs.Ones.{in_either}
 use Rattle.btr_chunk.specs.declared.stripe.Stripe.{Stripe}
 use Rattle.btr_scrub.proofs.Itemwise.{one_cut, one_more, scrubs_steps}
+use Rattle.btr_scrub.proofs.Grouping.{filter_all, filter_first}
 
 -- some blocks of a chunk are past, and mended
 pub record IsUnderway (fails : Failing) (layout : Layout) (write : Bool) (chunk : Chunk) (wants left : List Want) (marks marks' : List Bool)
@@ -53,18 +34,9 @@ pub record IsUnderway (fails : Failing) (layout : Layout) (write : Bool) (chunk 
   pub sound : (t : Target) → In t (targets layout past) → IsSought layout t × (t.chunk ≡ chunk) × (addr_of t.want + size_of t ≤ end)
   pub apart : AreApart layout end left
   pub done : Scrubs {A = Unit {0}} (alone layout chunk) write (sites_writes fails (targets layout past))
-      (sites_count fails write (targets layout past)) marks marks' old new
-      tally tally' (Ok tt)
+      (sites_count fails write (targets layout past)) marks marks' old new tally tally' (Ok tt)
 
 -- ---- lists
-
-pub filter_all : {X : Type 0} (p : X → Bool) (xs : List X) → ((x : X) → In x xs → p x ≡ true) → filter p xs ≡ xs
-filter_all p [] h = refl
-filter_all p (x ∷ xs) h = ap (λ b. cond b (x ∷ filter p xs) (filter p xs)) (h x (inl refl)) ∙ ap (λ ys. x ∷ ys) (filter_all p xs (λ y i. h y (inr i)))
-
-pub filter_none : {X : Type 0} (p : X → Bool) (xs : List X) → ((x : X) → In x xs → p x ≡ false) → filter p xs ≡ []
-filter_none p [] h = refl
-filter_none p (x ∷ xs) h = ap (λ b. cond b (x ∷ filter p xs) (filter p xs)) (h x (inl refl)) ∙ filter_none p xs (λ y i. h y (inr i))
 
 -- a target of some wants is that of one of them
 pub of_targets : (layout : Layout) (t : Target) (wants : List Want) → In t (targets layout wants) → (want : Want) × In want wants × (sought layout want ≡ Ok t)
@@ -72,15 +44,16 @@ of_targets layout t [] i = absurd i
 of_targets layout t (want ∷ wants) i = by (sought layout want) refl i (of_targets layout t wants)
   where
     by : (r : Result Target Fault) → sought layout want ≡ r → In t (cons_option (ok_or_none r) (targets layout wants))
-        → (In t (targets layout wants) → (w : Want) × In w wants × (sought layout w ≡ Ok t))
-        → (w : Want) × In w (want ∷ wants) × (sought layout w ≡ Ok t)
+        → (In t (targets layout wants) → (w : Want) × In w wants × (sought layout w ≡ Ok t)) → (w : Want) × In w (want ∷ wants) × (sought layout w ≡ Ok t)
     by (Err f) e i rest = let r = rest i in (r.0, inr r.1, r.2)
     by (Ok u) e (inl same) rest = (want, inl refl, e ∙ ap Ok same)
     by (Ok u) e (inr j) rest = let r = rest j in (r.0, inr r.1, r.2)
 
+-- the position of a block of a list is one that was sought
 pub target_sought : (layout : Layout) (wants : List Want) (t : Target) → In t (targets layout wants) → IsSought layout t
 target_sought layout wants t i = let w = of_targets layout t wants i in is_sought layout w.0 t w.2
 
+-- the blocks of two lists are those of the first, and then those of the second
 pub targets_both : (layout : Layout) (xs ys : List Want) → targets layout (xs ++ ys) ≡ targets layout xs ++ targets layout ys
 targets_both layout xs ys = filter_map-append (λ w. ok_or_none (sought layout w)) xs ys
 
@@ -98,6 +71,7 @@ all_behind layout end (w ∷ ws) apart want (inl e) = subst (λ x. end ≤ addr_
 all_behind layout end (w ∷ ws) apart want (inr i) =
     let later = all_behind layout (addr_of w + len_of layout.setting w) ws apart.2 want i in omega (arith, apart.0, later)
 
+-- blocks that are apart are so behind an address at which they begin
 pub apart_past : (layout : Layout) (from end : ℕ) (wants : List Want) → BeginsBehind end wants → AreApart layout from wants → AreApart layout end wants
 apart_past layout from end [] begins apart = tt
 apart_past layout from end (want ∷ wants) begins apart = (begins, apart.1, apart.2)
@@ -113,6 +87,7 @@ overlapping layout table i j c d at there before behind = elim (cases_order i j)
   | inr (inr lt) ↦ absurd (omega (arith, (table.apart j i d c lt there at).0, before))
 ]
 
+-- two chunks of a table that begin at one address are one
 pub with_one_start : (layout : Layout) → IsTable layout.chunks → (i j : ℕ) (c d : Chunk) → slice_get layout.chunks i ≡ Some c
     → slice_get layout.chunks j ≡ Some d → c.start ≡ d.start → (i ≡ j) × (c ≡ d)
 with_one_start layout table i j c d at there e = overlapping layout table i j c d at there (omega (arith, e, (facts d (table.sound j d there).0).some))
@@ -136,18 +111,14 @@ module _ (layout : Layout) (table : IsTable layout.chunks) (number : ℕ) (chunk
       → ((want : Want) → In want left → chunk.start + chunk.length ≤ addr_of want) → sites_in layout chunk (past ++ left) ≡ targets layout past
   blocks_are past left inside behind =
       ap (filter (is_in_chunk chunk)) (targets_both layout past left)
-      ∙ filter-append (is_in_chunk chunk) (targets layout past) (targets layout left)
-      ∙ ap (λ xs. xs ++ filter (is_in_chunk chunk) (targets layout left))
-      (filter_all (is_in_chunk chunk) (targets layout past) (λ t i. eq-eqb t.chunk.start chunk.start (ap (λ (c : Chunk). c.start) (inside t i))))
-      ∙ ap (λ xs. targets layout past ++ xs) (filter_none (is_in_chunk chunk) (targets layout left) (λ t i. let w = of_targets layout t left i in
+      ∙ filter_first (is_in_chunk chunk) (targets layout past) (targets layout left) (λ t i. let w = of_targets layout t left i in
       behind_not t (is_sought layout w.0 t w.2) (subst (λ x. chunk.start + chunk.length ≤ addr_of x) (sym (sought_of layout w.0 t w.2).want_is)
-      (behind w.0 w.1))))
-      ∙ append-nil (targets layout past)
+      (behind w.0 w.1)))
+      ∙ filter_all (is_in_chunk chunk) (targets layout past) (λ t i. eq-eqb t.chunk.start chunk.start (ap (λ (c : Chunk). c.start) (inside t i)))
 
   -- the blocks of the chunk are those that are past, this one, and those of the rest
   pub blocks_begin : (past : List Want) (want : Want) (t : Target) (rest : List Want) → ((t : Target) → In t (targets layout past) → t.chunk ≡ chunk)
-      → t.chunk ≡ chunk → sought layout want ≡ Ok t
-      → sites_in layout chunk (past ++ want ∷ rest) ≡ targets layout past ++ t ∷ sites_in layout chunk rest
+      → t.chunk ≡ chunk → sought layout want ≡ Ok t → sites_in layout chunk (past ++ want ∷ rest) ≡ targets layout past ++ t ∷ sites_in layout chunk rest
   blocks_begin past want t rest inside mine e =
       ap (filter (is_in_chunk chunk)) (one_target layout past want t rest e)
       ∙ filter-append (is_in_chunk chunk) (targets layout past) (t ∷ targets layout rest)
@@ -183,8 +154,7 @@ module _ (fails : Failing) (layout : Layout) (write : Bool) (chunk : Chunk) (n :
       let has = λ (u : Target) (i : In u (targets layout past)). ap mirrors (sound u i).1 ∙ copies in
       unmoved_by write images (mending_writes images fails) (targets layout past) (IsCopyByte layout t)
       (λ after. (mending_writes after fails t ≡ mending_writes images fails t)
-      × ((x : Tally) → count_site fails after write x t ≡ count_site fails images write x t))
-      (λ u i. site_short images layout l u (sound u i).0 fails)
+      × ((x : Tally) → count_site fails after write x t ≡ count_site fails images write x t)) (λ u i. site_short images layout l u (sound u i).0 fails)
       (λ u i slot off h here.
       let b = written_byte fails images layout l u (sound u i).0 n (has u i) slot off h in
       let s = shares layout u t slot off table own (sound u i).0 is b here in
@@ -194,6 +164,7 @@ module _ (fails : Failing) (layout : Layout) (write : Bool) (chunk : Chunk) (n :
 
 -- ---- which stripes stand
 
+-- a list without a first member is empty
 none_first : {X : Type 0} (xs : List X) → slice_get xs 0 ≡ None → xs ≡ []
 none_first [] e = refl
 none_first (x ∷ xs) e = absurd (false≢true (sym (ap is_some e)))
@@ -234,10 +205,12 @@ pub record IsNext (layout : Layout) (chunk : Chunk) (end : ℕ) (want : Want) (r
   pub from : chunk.start ≤ addr_of want
   pub apart : AreApart layout (addr_of want + len_of layout.setting want) rest
 
+-- what was answered well has a value
 pub ok_of : (r : Result Target Fault) → IsOk r → (t : Target) × (r ≡ Ok t)
 ok_of (Ok t) h = (t, refl)
 ok_of (Err f) h = absurd (false≢true h)
 
+-- a block that begins before the chunk's end lies in it
 pub next_block : (layout : Layout) (table : IsTable layout.chunks) (number : ℕ) (chunk : Chunk) (there : slice_get layout.chunks number ≡ Some chunk)
     (end : ℕ) (want : Want) (rest : List Want)
     → chunk.start ≤ end → AreApart layout end (want ∷ rest) → addr_of want < chunk.start + chunk.length → IsNext layout chunk end want rest
@@ -258,6 +231,7 @@ next_block layout table number chunk there end want rest from apart below =
       apart = apart.2;
     }
 
+-- a block of a chunk with copies none of whose devices is missing can be looked at
 pub next_copied : (layout : Layout) (table : IsTable layout.chunks) (chunk : Chunk) (end : ℕ) (want : Want) (rest : List Want)
     → IsSome (mirrors chunk) → first_missing layout ≡ None → IsNext layout chunk end want rest → IsCopied layout want
 next_copied layout table chunk end want rest copies none next = record {
@@ -267,44 +241,46 @@ next_copied layout table chunk end want rest copies none next = record {
   stand = λ m has. part_is_given layout next.target (Mirror m) table next.is has none;
 }
 
-module _ (fails : Failing) (layout : Layout) (write : Bool) (table : IsTable layout.chunks) (own : HaveOwnSlots layout.devices) (number : ℕ) (chunk : Chunk)
-    (there : slice_get layout.chunks number ≡ Some chunk) (copies : IsSome (mirrors chunk)) (wants : List Want) (m : List Bool) (a : Seen) (tally : Tally) where
-  pub underway_first : AreApart layout chunk.start wants → IsUnderway fails layout write chunk wants wants m m a a tally tally
-  underway_first apart =
-      record {
-        past = [];
-        split = refl;
-        end = chunk.start;
-        from = omega arith;
-        sound = λ t i. absurd i;
-        apart = apart;
-        done = scrubs_none (alone layout chunk) write m a tally tt;
-      }
+-- nothing is past yet
+pub underway_first : (fails : Failing) (layout : Layout) (write : Bool) (chunk : Chunk) (wants : List Want) (m : List Bool) (a : Seen) (tally : Tally)
+    → AreApart layout chunk.start wants → IsUnderway fails layout write chunk wants wants m m a a tally tally
+underway_first fails layout write chunk wants m a tally apart = record {
+  past = [];
+  split = refl;
+  end = chunk.start;
+  from = omega arith;
+  sound = λ t i. absurd i;
+  apart = apart;
+  done = scrubs_none (alone layout chunk) write m a tally tt;
+}
 
+module _ {fails : Failing} {layout : Layout} {write : Bool} {chunk : Chunk} {wants left : List Want} {m m' : List Bool} {a b : Seen} {tally tally' : Tally}
+    (h : IsUnderway fails layout write chunk wants left m m' a b tally tally') where
   -- what was done for some blocks
   abbrev Over : List Target → List Bool → Seen → Tally → Result (Unit {0}) MendFault → Type 0
   Over ts n z u r = Scrubs {A = Unit {0}} (alone layout chunk) write (sites_writes fails ts) (sites_count fails write ts) m n a z tally u r
 
-  module _ (left : List Want) (m' : List Bool) (b : Seen) (tally' : Tally) (h : IsUnderway fails layout write chunk wants left m m' a b tally tally') where
-    -- those of the chunk are past
-    pub past_chunk : BeginsBehind (chunk.start + chunk.length) left → IsPastChunk layout chunk wants left
-    past_chunk begins = record {
-      past = h.past;
-      split = h.split;
-      inside = λ t i. (h.sound t i).1;
-      behind = apart_past layout h.end (chunk.start + chunk.length) left begins h.apart;
-    }
+  -- those of the chunk are past
+  pub past_chunk : BeginsBehind (chunk.start + chunk.length) left → IsPastChunk layout chunk wants left
+  past_chunk begins = record {
+    past = h.past;
+    split = h.split;
+    inside = λ t i. (h.sound t i).1;
+    behind = apart_past layout h.end (chunk.start + chunk.length) left begins h.apart;
+  }
 
-    pub chunk_mended : (left' : List Want) → IsPastChunk layout chunk wants left' → left' ≡ left
-        → Over (sites_in layout chunk wants) m' b tally' (Ok tt)
+  module _ (table : IsTable layout.chunks) (number : ℕ) (there : slice_get layout.chunks number ≡ Some chunk) where
+    -- then all blocks of the chunk were mended
+    pub chunk_mended : (left' : List Want) → IsPastChunk layout chunk wants left' → left' ≡ left → Over (sites_in layout chunk wants) m' b tally' (Ok tt)
     chunk_mended left' past same =
         let are : sites_in layout chunk wants ≡ targets layout h.past =
         ap (sites_in layout chunk) h.split ∙ blocks_are layout table number chunk there h.past left (λ t i. (h.sound t i).1)
         (λ w i. all_behind layout (chunk.start + chunk.length) left (subst (AreApart layout (chunk.start + chunk.length)) same past.behind) w i) in
         subst (λ ts. Over ts m' b tally' (Ok tt)) (sym are) h.done
 
-    module _ (lengths : (images : Images) → a.held ≡ Some images → HaveLengths images layout) (want : Want) (rest : List Want) (is : left ≡ want ∷ rest)
-        (next : IsNext layout chunk h.end want rest) (m'' : List Bool) (z : Seen) (tally'' : Tally) where
+    module _ (own : HaveOwnSlots layout.devices) (copies : IsSome (mirrors chunk)) (lengths : (images : Images) → a.held ≡ Some images
+        → HaveLengths images layout) {want : Want} {rest : List Want} (is : left ≡ want ∷ rest) (next : IsNext layout chunk h.end want rest) where
+      -- what was mended before leaves what is told of the next block
       same_before : IsUnmoved layout write (sites_writes fails (targets layout h.past)) (λ images. mending_writes images fails next.target)
           (λ images tally. count_site fails images write tally next.target) a.held
       same_before =
@@ -312,13 +288,14 @@ module _ (fails : Failing) (layout : Layout) (write : Bool) (table : IsTable lay
           unmoved fails layout write chunk n.0 n.1 table own h.past h.end a.held next.target h.sound next.is next.mine next.behind lengths
 
       -- what was done for it
-      abbrev ForNext : Result (Unit {0}) MendFault → Type 0
-      ForNext r = Scrubs {A = Unit {0}} (alone layout chunk) write (λ images. mending_writes images fails next.target)
+      abbrev ForNext : List Bool → Seen → Tally → Result (Unit {0}) MendFault → Type 0
+      ForNext m'' z tally'' r = Scrubs {A = Unit {0}} (alone layout chunk) write (λ images. mending_writes images fails next.target)
           (λ images tally. count_site fails images write tally next.target) m' m'' b z tally' tally'' r
 
       -- one more is past
-      pub underway_more : ForNext (Ok tt) → IsUnderway fails layout write chunk wants rest m m'' a z tally tally''
-      underway_more one =
+      pub underway_more : {m'' : List Bool} {z : Seen} {tally'' : Tally} → ForNext m'' z tally'' (Ok tt)
+          → IsUnderway fails layout write chunk wants rest m m'' a z tally tally''
+      underway_more {m''} {z} {tally''} one =
           let ts : targets layout (h.past ++ want ∷ []) ≡ targets layout h.past ++ next.target ∷ [] =
           one_target layout h.past want next.target [] next.is_sought in
           record {
@@ -339,11 +316,11 @@ module _ (fails : Failing) (layout : Layout) (write : Bool) (table : IsTable lay
           }
 
       -- it came to a halt
-      pub underway_cut : (fault : MendFault) → ForNext (Err fault) → Over (sites_in layout chunk wants) m'' z tally'' (Err fault)
-      underway_cut fault one =
+      pub underway_cut : {m'' : List Bool} {z : Seen} {tally'' : Tally} (fault : MendFault) → ForNext m'' z tally'' (Err fault)
+          → Over (sites_in layout chunk wants) m'' z tally'' (Err fault)
+      underway_cut {m''} {z} {tally''} fault one =
           let us = sites_in layout chunk rest in
-          let are : sites_in layout chunk wants ≡ targets layout h.past ++ next.target ∷ us =
-          ap (sites_in layout chunk) (h.split ∙ ap (λ ws. h.past ++ ws) is)
+          let are : sites_in layout chunk wants ≡ targets layout h.past ++ next.target ∷ us = ap (sites_in layout chunk) (h.split ∙ ap (λ ws. h.past ++ ws) is)
           ∙ blocks_begin layout table number chunk there h.past want next.target rest (λ t i. (h.sound t i).1) next.mine next.is_sought in
           subst (λ ts. Over ts m'' z tally'' (Err fault)) (sym are)
           (one_cut (scrubs_steps (alone layout chunk) write) (λ images. mending_writes images fails)

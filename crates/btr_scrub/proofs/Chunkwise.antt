@@ -1,34 +1,22 @@
 -- The chunks of a table, one after another, and the scan of each.
 use Rattle.std.proofs.Common.{◌≡◌, ℕ, ◌+◌, ◌-◌, List, [], drop, slice_get, Contains, Option, Some, None, Result, ap, ◌∙◌, subst}
-use Rattle.std.proofs.lemmas.Option.{get_or_from_slice_get, slice_get_within}
-use Rattle.btr_chunk.specs.declared.chunk.Chunk.{Chunk}
-use Rattle.btr_prog.specs.Answers.{Follows, no_part}
-use Rattle.btr_prog.specs.Prog.{bind, exec}
-use Rattle.btr_read.specs.Layout.{Layout}
-use Rattle.btr_read.specs.Serves.{Serves}
-use Rattle.btr_read.specs.Store.{Blocks, SameLoans}
-use Rattle.btr_super.specs.declared.superblock.Super.{Super}
+use Rattle.btr_scrub.proofs.Common.{Blocks, Chunk, Follows, Gathers, Layout, Map, SameLoans, Scan, Scene, Serves, Span, Super, TreeRoot, Volume, bind, drawn}
+use Rattle.btr_scrub.proofs.Common.{exec, get_or_from_slice_get, in_chunk, in_chunks, key, no_part, scene, slice_get_within, unread_by, without_leaf}
 use Rattle.btr_walk.specs.Advancing.{loan_of}
 use Rattle.btr_walk.specs.Lending.{base}
 use Rattle.btr_walk.specs.Range.{RangeProg, range}
-use Rattle.btr_walk.specs.Reading.{Map, unread_by}
-use Rattle.btr_walk.specs.ScanEnds.{left_of, without_leaf}
+use Rattle.btr_walk.specs.ScanEnds.{left_of}
 use Rattle.btr_walk.specs.declared.place.RootPlace.{RootPlace}
-use Rattle.btr_walk.specs.declared.scan.Scan.{Scan}
-use Rattle.btr_volume.specs.Tree.{key, last}
-use Rattle.btr_volume.specs.declared.root.TreeRoot.{TreeRoot}
+use Rattle.btr_volume.specs.Tree.{last}
 use Rattle.btr_volume.specs.declared.stop.Stop.{Stop as TheStop}
-use Rattle.btr_volume.specs.declared.volume.Volume.{Volume}
-use Rattle.btr_walk.proofs.Joined.{drawn}
 use Rattle.btr_walk.proofs.Lending.{same_then}
 use Rattle.btr_scrub.specs.Extents.{span_of}
-use Rattle.btr_scrub.specs.Gathering.{Gathers, Scene, scene}
 use Rattle.btr_scrub.specs.Scanning.{IsSpanAt, IsSpanIn, Scanned}
-use Rattle.btr_scrub.specs.Units.{in_chunk, in_chunks, items_met}
-use Rattle.btr_scrub.specs.declared.extent.Span.{Span}
+use Rattle.btr_scrub.specs.Units.{items_met}
 use Rattle.btr_volume.specs.Stops.{ended}
 use Rattle.btr_scrub.proofs.Firsts.{drop_one}
 
+-- a list contains what it has at a number
 pub contains_at : (chunks : List Chunk) (i : ℕ) (chunk : Chunk) → slice_get chunks i ≡ Some chunk → Contains chunks chunk
 contains_at chunks i chunk e = (i, slice_get_within chunks i chunk e, get_or_from_slice_get chunks i chunk chunk e)
 
@@ -47,21 +35,20 @@ pub range_of_span : (span : Span) (chunk : Chunk) (root : RootPlace) → span �
     ≡ range (key chunk.start 0 0) (key (chunk.start + chunk.length - 1) 255 last) root
 range_of_span span chunk root e = ap (λ (s : Span). range (key s.start 0 0) (key (s.start + s.length - 1) 255 last) root) e
 
+-- without the leaf of a scan that has none, a store of blocks is as it is
 no_leaf : (store : Blocks) (scan : Scan) → scan.leaf ≡ None → without_leaf store scan ≡ store
 no_leaf store scan e = ap (λ l. base store (loan_of l)) e
 
 -- a scan that was made for a chunk came to its end, and gave its leaf back
 pub gathers_scan : (s : Super) (sums : Option TreeRoot) (chunk : Chunk) (x y : Scene) (scan scan' : Scan) (r : Result ℕ TheStop) (after : Volume)
-    (p : RangeProg)
-    → Scanned s sums chunk x y scan scan' r → s ≡ x.vol.sup → after.sup ≡ y.vol.sup → SameLoans (without_leaf y.vol.store scan') after.store
+    (p : RangeProg) → Scanned s sums chunk x y scan scan' r → s ≡ x.vol.sup → after.sup ≡ y.vol.sup → SameLoans (without_leaf y.vol.store scan') after.store
     → Serves y.rack after.store → scan.leaf ≡ None → ((B : Map) → left_of B x.vol.store scan ≡ p)
     → Gathers (items_met s sums chunk 0 p) x (scene y.rack after y.list) r
 gathers_scan s sums chunk x y scan scan' r after p h same sup back serves none program = record {
   reads = h.reads;
   volume = record {
     sup = sup ∙ h.sup;
-    store = same_then (subst (λ b. SameLoans b (without_leaf y.vol.store scan'))
-        (no_leaf x.vol.store scan none) h.others) back;
+    store = same_then (subst (λ b. SameLoans b (without_leaf y.vol.store scan')) (no_leaf x.vol.store scan none) h.others) back;
   };
   serves = serves;
   done = h.done;

@@ -1,34 +1,21 @@
 -- A block is left where few elements are wrong, or where it is right itself.
 use Rattle.std.proofs.Common.{◌≡◌, ◌⊎◌, ℕ, ◌+◌, ◌-◌, ◌*◌, ◌/◌, ◌<◌, ◌≤◌, true, false, not, cond, ◌&&◌, eqb, ltb, List, [], ◌∷◌, length, get_or, slice_range}
 use Rattle.std.proofs.Common.{All, Some, None, IfSome, IsNone, refl, sym, ap, ◌∙◌, subst, inl, inr, arith}
-use Rattle.std.proofs.lemmas.Bool.{false≢true, and_from, eq-eqb, lt-ltb}
+use Rattle.btr_scrub.proofs.Common.{HasPart, Images, IsSoundRow, Layout, Mirror, P, Part, Profile, Q, Raid5, Raid6, Read, Row, Target, and_from, bad_parts}
+use Rattle.btr_scrub.proofs.Common.{blocks_at, candidates, data_count, eq-eqb, false≢true, is_good, is_plain, is_sound, lt-ltb, mirrors, option_map_or}
+use Rattle.btr_scrub.proofs.Common.{own_parts, parts_read, passes, passing_filter, right_for, size_of, slice_count, slices_with, stale_parts, stands}
+use Rattle.btr_scrub.proofs.Common.{value_of, without_copies, wrong_parts}
 use Rattle.std.specs.List.{Contains}
-use Rattle.std.specs.Option.{option_map_or}
-use Rattle.btr_chunk.specs.Chunk.{data_count, mirrors}
-use Rattle.btr_chunk.specs.Mapping.{HasPart}
-use Rattle.btr_chunk.specs.declared.place.Part.{Part}
-use Rattle.btr_chunk.specs.declared.profile.Profile.{Profile}
-use Rattle.btr_chunk.specs.declared.profile.Profile.TheVariants.{Raid5, Raid6}
-use Rattle.btr_chunk.specs.declared.place.Part.TheVariants.{Mirror, Slice, P, Q}
-use Rattle.btr_chunk.proofs.Rows.{without_copies}
-use Rattle.btr_read.specs.Candidates.{Target, candidates, copies, parts_read, rebuilt, size_of, slice_count, stands, value_of, ways}
+use Rattle.btr_chunk.specs.declared.place.Part.TheVariants.{Slice}
+use Rattle.btr_read.specs.Candidates.{copies, rebuilt, ways}
 use Rattle.btr_read.specs.Candidates as read
-use Rattle.btr_read.specs.Fate.{is_plain}
-use Rattle.btr_read.specs.Layout.{Layout}
-use Rattle.btr_read.specs.Want.{passes}
-use Rattle.btr_read.specs.declared.candidate.Candidate.TheVariants.{Read}
 use Rattle.btr_read.proofs.Order.{in_candidates}
-use Rattle.btr_scrub_copies.proofs.Syncs.{passing_filter}
-use Rattle.btr_scrub_copies.specs.Blocks.{bad_parts, is_good, is_sound, own_parts}
-use Rattle.btr_scrub_copies.specs.Fresh.{stale_parts}
-use Rattle.btr_scrub_copies.specs.Writes.{Images}
-use Rattle.btr_scrub_row.specs.Wanted.{wrong_parts}
 use Rattle.btr_scrub_row.specs.Rows as rows
-use Rattle.btr_scrub_row.specs.Rows.{Row, blocks_at, column_of, element, meets, slices_with}
-use Rattle.btr_scrub.specs.Columns.{Committed, HasFewWrongAt, HasRightPlace, IsSoundIn, IsWrongAt, right_element, right_for}
+use Rattle.btr_scrub_row.specs.Rows.{column_of, element, meets}
+use Rattle.btr_scrub.specs.Columns.{Committed, HasFewWrongAt, HasRightPlace, IsSoundIn, IsWrongAt, right_element}
 use Rattle.btr_scrub.specs.BlocksInRows.{In, IsNearly}
 use Rattle.btr_scrub.specs.Right.{StandsFor}
-use Rattle.btr_scrub.specs.Survival.{AreBehind, FewAreFewAt, IsSoundBlock, IsSoundRow, KeepsRight, RightPasses, RowSurvives}
+use Rattle.btr_scrub.specs.Survival.{AreBehind, FewAreFewAt, IsSoundBlock, KeepsRight, RightPasses, RowSurvives}
 use Rattle.btr_scrub.proofs.Elements.{block_of_element, part_stands}
 use Rattle.btr_scrub.proofs.Lists.{any_in, in_any, in_filter, some_of}
 use Rattle.btr_scrub.proofs.Stripes.{any_of, row_gives_blocks}
@@ -41,10 +28,12 @@ own_way : (p : Profile) (n k : ℕ) → (p ≡ Raid5) ⊎ (p ≡ Raid6) → In (
 own_way p n k (inl five) = subst (λ p. In (Read (Slice k)) (rebuilt p n k)) (sym five) (inl refl)
 own_way p n k (inr six) = subst (λ p. In (Read (Slice k)) (rebuilt p n k)) (sym six) (inl refl)
 
+-- a block's own place is one of its candidates, where there is parity
 pub own_candidate : (t : Target) → mirrors t.chunk ≡ None → In (Read (Slice t.at.index)) (candidates t)
 own_candidate t none = in_candidates t (Read (Slice t.at.index)) (subst (In (Read (Slice t.at.index))) (sym ways_are)
     (own_way t.chunk.profile (slice_count t) t.at.index (without_copies t.chunk.profile (length t.chunk.stripes) none)))
   where
+    -- without copies the ways to a block are to read its own slice, and to rebuild it
     ways_are : ways t ≡ rebuilt t.chunk.profile (slice_count t) t.at.index
     ways_are = ap (λ o. option_map_or copies o (rebuilt t.chunk.profile (slice_count t) t.at.index)) none
 
@@ -99,12 +88,15 @@ sound_byte images layout C row c x Q is low high wrong =
 
 module _ (images left : Images) (layout : Layout) (C : Committed) (row : Row) (t : Target) (sound : IsSoundRow images layout C row)
     (pass : RightPasses C t) (keeps : KeepsRight images left layout C row) (among : In t row.blocks) (checked : is_plain t.want ≡ false) where
+  -- the block is a sound one of the row
   block : IsSoundBlock images layout C row t
   block = sound.blocks t among
 
+  -- where the block begins in its element
   abbrev from : ℕ
   from = t.at.rest
 
+  -- where it ends there
   abbrev to : ℕ
   to = t.at.rest + size_of t
 
@@ -116,15 +108,18 @@ module _ (images left : Images) (layout : Layout) (C : Committed) (row : Row) (t
       (omega (arith, keeps.lengths q has, (sound.bytes q has).long, block.lies.inside)) (sym (keeps.lengths q has))
       (λ x low high. keeps.bytes q x has (omega (arith, high, block.lies.inside)) (fine x low high))
 
+  -- the block's chunk has as many slices as the row
   count : slice_count t ≡ rows.slice_count row
   count = ap (λ c. data_count c.profile (length c.stripes)) block.lies.chunk
 
+  -- the block's slice is one of the row
   below : t.at.index < rows.slice_count row
   below = omega (arith, count, block.in_row.position.index)
 
   -- ---- few elements are wrong
 
   module _ (few : HasFewWrongAt images layout C row t) where
+    -- where the block lies, what is left is the right stripe but for few elements
     near : IsNearly left layout row (right images layout C row sound) few.wrong t
     near = record {
       few = few.few;
@@ -140,33 +135,38 @@ module _ (images left : Images) (layout : Layout) (C : Committed) (row : Row) (t
           ∙ ap (λ xs. slice_range xs from to) (right_part images layout C row sound q has);
     }
 
+    -- so in what is left a candidate gives its committed bytes
     by_few : StandsFor left C t
     by_few =
         let b = some_of (C t.want) (block.committed checked) in
         let there = block_there images layout C row sound t b.0 among below (right_checked images C row t checked ∙ b.1) in
         let bytes = slice_range (get_or (slices_with images layout (right_for images C row) row) t.at.index []) from to in
         any_of (λ c. (stands t c ≡ true) × All (λ q. ¬ (Contains (parts_read (slice_count t) t.at.index c) q)) few.wrong × (value_of left t c ≡ bytes))
-        (λ c. (stands t c ≡ true) × (C t.want ≡ Some (value_of left t c))) (candidates t)
-        (λ c h. (h.0, b.1 ∙ ap Some (sym (h.2 ∙ there))))
+        (λ c. (stands t c ≡ true) × (C t.want ≡ Some (value_of left t c))) (candidates t) (λ c h. (h.0, b.1 ∙ ap Some (sym (h.2 ∙ there))))
         (row_gives_blocks left layout row (right images layout C row sound) few.wrong t block.in_row block.lies (right_is images layout C row sound) near)
 
   -- ---- the block is right at its own place
 
   module _ (right_place : HasRightPlace images C t) where
+    -- the block's own slice
     abbrev own : Part
     own = Slice t.at.index
 
+    -- its committed bytes stand there
     committed : C t.want ≡ Some (read.element images t own)
     committed =
         let a = in_any (λ q. C t.want ≡ Some (read.element images t q)) (own_parts t) right_place in
         a.2 ∙ ap (λ q. Some (read.element images t q)) (sym (own_slice t a.0 block.in_row.parity a.1))
 
+    -- so it passes there
     good : is_good images t own ≡ true
     good = subst (λ o. IfSome o (λ bytes. passes t.setting t.want bytes ≡ true)) committed pass
 
+    -- the row has that slice
     has : HasPart row.chunk.profile (length row.chunk.stripes) own
     has = slice_there images layout C row sound t.at.index below
 
+    -- so has the block's chunk
     mine : HasPart t.chunk.profile (length t.chunk.stripes) own
     mine = (subst IsNone (sym block.in_row.parity) refl, block.in_row.position.index)
 
@@ -187,20 +187,24 @@ module _ (images left : Images) (layout : Layout) (C : Committed) (row : Row) (t
         (in_slice wrong.block wrong.among index) low high wrong.from wrong.to in
         not_wrong (subst (λ u. In own (wrong_parts images row.failing u)) (sym same) wrong.bad)
 
+    -- what stands at its own place stays
     own_stays : read.element left t own ≡ read.element images t own
     own_stays =
         block_of_element left layout row t own block.in_row block.lies mine (sound.stand own has) ∙ stays own has untouched
         ∙ sym (block_of_element images layout row t own block.in_row block.lies mine (sound.stand own has))
 
+    -- so in what is left its own place gives them
     by_own : StandsFor left C t
     by_own =
         any_in (λ c. (stands t c ≡ true) × (C t.want ≡ Some (value_of left t c))) (candidates t) (Read own) (own_candidate t block.in_row.parity)
         (ap (λ b. b && true) (part_stands layout row t own block.in_row block.lies mine (sound.stand own has)), committed ∙ ap Some (sym own_stays))
 
+-- a block that is right at its own place, or where few elements are wrong, is left, whatever stands in the wrong bytes
 pub row_survives : RowSurvives
 row_survives images left layout C row t sound pass (inl own) keeps among checked = by_own images left layout C row t sound pass keeps among checked own
 row_survives images left layout C row t sound pass (inr few) keeps among checked = by_few images left layout C row t sound pass keeps among checked few
 
+-- where few elements of a row are wrong at all, few are where a block lies
 pub few_are_few_at : FewAreFewAt
 few_are_few_at images layout C row t sound pass few = record {
   wrong = few.wrong;

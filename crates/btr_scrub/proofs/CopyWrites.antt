@@ -1,32 +1,16 @@
 -- The writes of blocks with copies leave the bytes of the blocks behind them.
 use Rattle.std.proofs.Common.{◌≡◌, ℕ, ◌+◌, ◌<◌, ◌≤◌, Bool, true, false, cond, List, [], ◌∷◌, length, slice_get, Option, Some, None, IsSome, IsSomeAnd, refl}
 use Rattle.std.proofs.Common.{sym, ap, ◌∙◌, subst, inl, inr, arith}
-use Rattle.std.proofs.lemmas.Bool.{false≢true}
-use Rattle.std.proofs.lemmas.Option.{same_Some}
-use Rattle.std.specs.List.{cons_option, filter, filter_map, list_any, range_with_len}
-use Rattle.std.specs.Option.{option_map, option_map_or}
-use Rattle.btr_chunk.specs.Chunk.{mirrors}
-use Rattle.btr_chunk.specs.Mapping.{place_at}
-use Rattle.btr_chunk.specs.declared.place.Part.{Part}
-use Rattle.btr_chunk.specs.declared.place.Part.TheVariants.{Mirror}
-use Rattle.btr_rack.specs.Rack.{bytes_of, image_of, range_in}
+use Rattle.btr_scrub.proofs.Common.{Candidate, Device, Failing, HaveLengths, Images, IsSought, KeepsOutside, Layout, Mirror, Part, Target, Write, cons_option}
+use Rattle.btr_scrub.proofs.Common.{device_in, false≢true, filter, filter_map, fresh, has_mirror, image_of, in_below, length-slice_range, list_any}
+use Rattle.btr_scrub.proofs.Common.{mending_writes, mirrors, option_map, option_map_or, passes, place_at, range_in, range_of, range_with_len, same_Some}
+use Rattle.btr_scrub.proofs.Common.{size_of, value_of}
+use Rattle.btr_rack.specs.Rack.{bytes_of}
 use Rattle.btr_rack.specs.declared.place.Place.{Place as Range}
-use Rattle.btr_read.specs.Candidates.{Target, element, range_of, reading, size_of, value_of}
-use Rattle.btr_read.specs.Layout.{Layout, device_in}
-use Rattle.btr_read.specs.Want.{passes}
-use Rattle.btr_read.specs.declared.candidate.Candidate.{Candidate}
-use Rattle.btr_read.specs.declared.device.Device.{Device}
-use Rattle.btr_read.proofs.Ones.{in_below}
-use Rattle.btr_read.proofs.Pieces.{length-slice_range}
-use Rattle.btr_scrub_copies.specs.Writes.{Images, Write}
-use Rattle.btr_scrub_copies.proofs.Copied.{has_mirror}
-use Rattle.btr_scrub_row.specs.Wanted.{mending_writes}
-use Rattle.btr_scrub.specs.Devices.{HaveLengths}
+use Rattle.btr_read.specs.Candidates.{element, reading}
 use Rattle.btr_scrub.specs.BlocksInRows.{In}
-use Rattle.btr_scrub.specs.WrittenRanges.{KeepsOutside}
-use Rattle.btr_scrub.specs.Order.{IsSought}
 use Rattle.btr_scrub.specs.Repair.{covers}
-use Rattle.btr_scrub_copies.specs.Fresh.{Failing, first_trusted, fresh}
+use Rattle.btr_scrub_copies.specs.Fresh.{first_trusted}
 use Rattle.btr_scrub.proofs.Agreeing.{IsTrusted, SiteAlike, trusted_from, copies_alike}
 use Rattle.btr_scrub.proofs.Positions.{IsCopyByte, of_range}
 use Rattle.btr_scrub.proofs.OwnPlaces.{own_copies, over_byte, wrong_own}
@@ -43,6 +27,7 @@ pub record IsThere (images : Images) (t : Target) (part : Part) (range : Range) 
   pub is : range ≡ range_in device.slot (place_at t.chunk part t.at).offset (size_of t)
   pub within : (place_at t.chunk part t.at).offset + size_of t ≤ length (image_of images device.slot)
 
+-- what stands in a part's range is the part's element, and lies in its image
 pub is_there : (images : Images) (layout : Layout) (t : Target) (part : Part) (range : Range) → HaveLengths images layout → IsSought layout t
     → range_of t part ≡ Some range → IsThere images t part range
 is_there images layout t part range lengths is e =
@@ -56,9 +41,11 @@ pub element_is : (images : Images) (t : Target) (part : Part) (range : Range) �
     ≡ bytes_of images range.slot range.off range.len
 element_is images t part range e = ap (λ (o : Option Range). option_map_or (λ range. bytes_of images range.slot range.off range.len) o []) e
 
+-- a range that lies within its image has as many bytes as it says
 long_bytes : (images : Images) (slot off len : ℕ) → off + len ≤ length (image_of images slot) → length (bytes_of images slot off len) ≡ len
 long_bytes images slot off len within = length-slice_range (image_of images slot) off (off + len) within ∙ omega arith
 
+-- an element that stands is as long as its block
 pub long_element : (images : Images) (layout : Layout) (t : Target) (part : Part) → HaveLengths images layout → IsSought layout t
     → IsSome (range_of t part) → length (element images t part) ≡ size_of t
 long_element images layout t part lengths is some = by (range_of t part) refl some
@@ -105,8 +92,7 @@ first_of images t (c ∷ cs) bytes e = by (reading images t c) refl e (first_of 
     by : (o : Option (List ℕ)) → reading images t c ≡ o → slice_get
         (filter (passes t.setting t.want) (cons_option o (filter_map (reading images t) cs))) 0 ≡ Some bytes
         → (slice_get (filter (passes t.setting t.want) (filter_map (reading images t) cs)) 0 ≡ Some bytes → (d : Candidate) × In d cs
-        × (reading images t d ≡ Some bytes))
-        → (d : Candidate) × In d (c ∷ cs) × (reading images t d ≡ Some bytes)
+        × (reading images t d ≡ Some bytes)) → (d : Candidate) × In d (c ∷ cs) × (reading images t d ≡ Some bytes)
     by None r e rest = let s = rest e in (s.0, inr s.1, s.2)
     by (Some x) r e rest = or (passes t.setting t.want x) e
       where
@@ -123,6 +109,7 @@ pub record IsFreshBy (fails : Failing) (images : Images) (t : Target) (bytes : L
   pub value : value_of images t way ≡ bytes
   pub reads : reading images t way ≡ Some bytes
 
+-- fresh bytes are those of a trusted candidate
 pub fresh_from : (fails : Failing) (images : Images) (t : Target) (bytes : List ℕ) → fresh images fails t ≡ Some bytes → IsFreshBy fails images t bytes
 fresh_from fails images t bytes e = by (first_trusted fails t) refl e
   where
@@ -153,6 +140,7 @@ module _ (fails : Failing) (images : Images) (layout : Layout) (lengths : HaveLe
         copies_alike images images' t n has (λ k lt. same_element images images' layout ranges t (Mirror k) lengths is keeps
         (λ slot off c. free slot off (byte k lt slot off (range_of t (Mirror k)) refl c))) fails
       where
+        -- a byte in the range of a copy is a byte of the block's copies
         byte : (k : ℕ) → k < n → (slot off : ℕ) (o : Option Range) → range_of t (Mirror k) ≡ o → IsSomeAnd o (λ range. covers slot off range ≡ true)
             → IsCopyByte layout t slot off
         byte k lt slot off None e c = absurd c

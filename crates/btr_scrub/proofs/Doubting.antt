@@ -2,44 +2,28 @@
 use Rattle.std.proofs.Common.{◌≡◌, ℕ, ◌+◌, ◌<◌, ◌≤◌, Bool, true, false, cond, ◌&&◌, ◌||◌, not, eqb, leb, List, [], ◌∷◌, ◌++◌, length, set, get_or, Option, Some}
 use Rattle.std.proofs.Common.{None, IfSome, IsNone, IsOk, IsOkAnd, inl, inr, Result, Ok, Err, refl, sym, ap, ◌∙◌, subst, arith}
 use Rattle.std.proofs.Math.Bool.{or-false, and-false, or-true, or_assoc}
-use Rattle.std.proofs.lemmas.Bool.{eq-eqb, eqb-true, false≢true}
+use Rattle.btr_scrub.proofs.Common.{AccountsMend, AreApart, Device, Flags, HasPart, Image, Images, IsSought, IsTable, Layout, LiesInStripe, Memory, MendFault}
+use Rattle.btr_scrub.proofs.Common.{Mirror, Part, Plain, Sector, Seen, Target, Want, addr_of, data_count, device_in, eq-eqb, eqb-true, failing, fails_at}
+use Rattle.btr_scrub.proofs.Common.{fails_on, false≢true, has_mirror, is_good, is_plain, len_of, list_any, list_any-false, mirrors, option_map_or, own_parts}
+use Rattle.btr_scrub.proofs.Common.{passes, place_at, range_in, range_of, range_on, range_with_len, same_Some, size_of, sought, sought_of, targets}
 use Rattle.std.proofs.lemmas.List.{append_assoc, append-nil, get_or-set_other, get_or-set_same}
 use Rattle.std.proofs.lemmas.List.Folds.{list_any-append}
-use Rattle.std.proofs.lemmas.Option.{same_Some}
-use Rattle.std.specs.List.{list_any, range_with_len}
-use Rattle.std.specs.Option.{option_map_or}
-use Rattle.btr_chunk.specs.Chunk.{data_count, mirrors}
-use Rattle.btr_chunk.specs.Mapping.{HasPart, place_at}
-use Rattle.btr_chunk.specs.Table.{IsTable}
-use Rattle.btr_chunk.specs.declared.place.Part.{Part}
-use Rattle.btr_chunk.specs.declared.place.Part.TheVariants.{Mirror, Slice}
-use Rattle.btr_rack.specs.Rack.{Seen, Slot, bytes_of, range_in}
+use Rattle.btr_chunk.specs.declared.place.Part.TheVariants.{Slice}
+use Rattle.btr_rack.specs.Rack.{Slot, bytes_of}
 use Rattle.btr_rack.specs.declared.place.Place.{Place as Range}
-use Rattle.btr_read.specs.Candidates.{Target, element, range_of, range_on, size_of}
-use Rattle.btr_read.specs.Fate.{is_plain, sought}
-use Rattle.btr_read.specs.Layout.{AreOpen, Layout, device_in}
-use Rattle.btr_read.specs.Want.{addr_of, len_of, passes}
-use Rattle.btr_read.specs.declared.device.Device.{Device}
+use Rattle.btr_read.specs.Candidates.{element}
+use Rattle.btr_read.specs.Layout.{AreOpen}
 use Rattle.btr_read.specs.declared.setting.Setting.{Setting}
-use Rattle.btr_read.specs.declared.want.Want.{Want}
-use Rattle.btr_read.specs.declared.want.Want.TheVariants.{Block, Plain, Sector, Tree}
+use Rattle.btr_read.specs.declared.want.Want.TheVariants.{Block, Tree}
 use Rattle.btr_read.proofs.Slots.{IsReadable, readable}
-use Rattle.btr_scrub_copies.proofs.Copied.{has_mirror}
 use Rattle.btr_scrub_row.proofs.Accepted.{the_target}
-use Rattle.btr_read.proofs.Fates.{sought_of}
-use Rattle.btr_scrub_copies.specs.Blocks.{is_good, own_parts}
-use Rattle.btr_scrub_copies.specs.Writes.{AccountsMend, Images, In}
-use Rattle.btr_scrub_copies.specs.declared.mended.MendFault.{MendFault}
-use Rattle.btr_scrub_copies.specs.declared.mended.MendFault.TheVariants.{Image, Memory}
-use Rattle.btr_scrub.specs.Doubts.{fails_at, fails_on, failing, is_on}
-use Rattle.btr_scrub.specs.Judged.{Flags, FlagsBlock, HasOwn, IsOfPart}
-use Rattle.btr_scrub.specs.WrittenRanges.{LiesInStripe}
+use Rattle.btr_scrub_copies.specs.Writes.{In}
+use Rattle.btr_scrub.specs.Doubts.{is_on}
+use Rattle.btr_scrub.specs.Judged.{FlagsBlock, HasOwn, IsOfPart}
 use Rattle.btr_scrub.specs.Listed.{PassesIf}
-use Rattle.btr_scrub.specs.Order.{AreApart, IsSought, targets}
 use Rattle.btr_scrub.proofs.Blockwise.{one_target}
 pub use Rattle.btr_scrub.proofs.Blockwise.{ok_of as the_sought}
 use Rattle.btr_scrub.proofs.Positions.{in_stripe}
-use Rattle.btr_chunk.proofs.Searches.{list_any-false}
 use Rattle.btr_scrub.proofs.Lists.{any_map}
 use Rattle.btr_scrub.proofs.OwnPlaces.{own_copies}
 use Rattle.btr_scrub_row.proofs.Settled.{own as own_are}
@@ -55,6 +39,7 @@ length_on off len (Some device) range e = by (leb (off + len) device.len) e
     by true e = ap (λ (r : Range). r.len) (sym (same_Some (range_in device.slot off len) range e))
     by false e = cc
 
+-- a part's range is as long as the block
 pub range_long : (layout : Layout) (want : Want) (t : Target) (part : Part) (range : Range) → sought layout want ≡ Ok t → range_of t part ≡ Some range
     → range.len ≡ len_of layout.setting want
 range_long layout want t part range e is =
@@ -65,8 +50,7 @@ range_long layout want t part range e is =
 
 -- whether the block passes there
 pub good_there : (layout : Layout) (want : Want) (t : Target) (part : Part) (range : Range) (images : Images) → sought layout want ≡ Ok t
-    → range_of t part ≡ Some range
-    → passes layout.setting want (bytes_of images range.slot range.off range.len) ≡ is_good images t part
+    → range_of t part ≡ Some range → passes layout.setting want (bytes_of images range.slot range.off range.len) ≡ is_good images t part
 good_there layout want t part range images e is =
     let of = sought_of layout want t e in
     let bytes : element images t part ≡ bytes_of images range.slot range.off range.len =
@@ -112,12 +96,14 @@ read_part layout want slots part range open' own at =
     let is = sym (at f.0 f.1) in
     (readable slots f.0 part range (subst (AreOpen slots) (sym of.devices_is) open') is, range_long layout want f.0 part range f.1 is)
 
+-- each block fits a buffer of a node, and of a sector
 pub want_fits : (setting : Setting) (want : Want) (n : ℕ) → setting.nodesize ≤ n → 4096 ≤ n → len_of setting want ≤ n
 want_fits setting (Tree addr generation level) n node sector = node
 want_fits setting (Block addr) n node sector = node
 want_fits setting (Sector addr sum) n node sector = sector
 want_fits setting (Plain addr) n node sector = sector
 
+-- what follows from a fact of the images follows from what is told of them
 pub some_of : (held : Option Images) (P Q : Images → Type 0) → ((images : Images) → P images → Q images) → IfSome held P → IfSome held Q
 some_of None P Q h p = tt
 some_of (Some images) P Q h p = h images p
@@ -159,10 +145,12 @@ parts_in_stripe layout t old new (Err (Image slot)) table is h = record {
 
 -- ---- one after another
 
+-- flags that were set twice are those of both
 pub flags_then : (old mid new : List Bool) (a b c : ℕ → Bool) → Flags old a mid → Flags mid b new → ((slot : ℕ) → (a slot || b slot) ≡ c slot) → Flags old c new
 flags_then old mid new a b c one two is slot =
     two slot ∙ ap (λ x. x || b slot) (one slot) ∙ or_assoc (get_or old slot false) (a slot) (b slot) ∙ ap (λ x. get_or old slot false || x) (is slot)
 
+-- flags stay where nothing fails
 pub flags_none : (flags : List Bool) (none : ℕ → Bool) → ((slot : ℕ) → none slot ≡ false) → Flags flags none flags
 flags_none flags none is slot = sym (ap (λ b. get_or flags slot false || b) (is slot) ∙ or-false (get_or flags slot false))
 
@@ -172,15 +160,18 @@ pub fails_copies : (images : Images) (t : Target) (n slot : ℕ) → mirrors t.c
 fails_copies images t n slot e =
     sym (ap (list_any (fails_at images t slot)) (own_copies t n e) ∙ any_map (fails_at images t slot) Mirror (range_with_len 0 n))
 
+-- a block of a chunk with parity fails on an image where its own slice does
 pub fails_slice : (images : Images) (t : Target) (slot : ℕ) → mirrors t.chunk ≡ None → fails_at images t slot (Slice t.at.index) ≡ fails_on images slot t
 fails_slice images t slot e = sym (ap (list_any (fails_at images t slot)) (own_are images t e) ∙ or-false (fails_at images t slot (Slice t.at.index)))
 
+-- what holds of all images holds of those that are told
 pub all_of : (held : Option Images) (P : Images → Type 0) → ((images : Images) → P images) → IfSome held P
 all_of None P h = tt
 all_of (Some images) P h = h images
 
 -- ---- a sector without a checksum
 
+-- any bytes pass as those of a sector without a checksum
 pub passes_plain : (setting : Setting) (want : Want) (bytes : List ℕ) → is_plain want ≡ true → passes setting want bytes ≡ true
 passes_plain setting (Tree addr generation level) bytes e = absurd (false≢true e)
 passes_plain setting (Block addr) bytes e = absurd (false≢true e)
@@ -195,10 +186,10 @@ flags_plain layout want t held flags bare e =
     (λ images. flags_none flags (λ slot. fails_on images slot t)
     (λ slot. list_any-false (fails_at images t slot) (own_parts t) (λ i part there. never images slot part)))
   where
+    -- it fails on no image at any place
     never : (images : Images) (slot : ℕ) (part : Part) → fails_at images t slot part ≡ false
     never images slot part =
-        ap (λ b. is_on t slot part && not b)
-        (passes_plain t.setting t.want (element images t part) (ap is_plain (sought_of layout want t e).want_is ∙ bare))
+        ap (λ b. is_on t slot part && not b) (passes_plain t.setting t.want (element images t part) (ap is_plain (sought_of layout want t e).want_is ∙ bare))
         ∙ and-false (is_on t slot part)
 
 -- ---- the blocks of a list
@@ -211,11 +202,13 @@ pub record LookedAt (layout : Layout) (held : Option Images) (wants left : List 
   pub apart : AreApart layout end left
   pub flags : IfSome held (λ images. Flags old (failing images (targets layout past)) new)
 
+-- what follows from two facts of the images follows from what is told of them
 pub both_of : (held : Option Images) (P Q S : Images → Type 0) → ((images : Images) → P images → Q images → S images) → IfSome held P → IfSome held Q
     → IfSome held S
 both_of None P Q S h p q = tt
 both_of (Some images) P Q S h p q = h images p q
 
+-- nothing was looked at yet
 pub looked_first : (layout : Layout) (held : Option Images) (wants : List Want) (flags : List Bool) → AreApart layout 0 wants
     → LookedAt layout held wants wants flags flags
 looked_first layout held wants flags apart = record {
@@ -227,10 +220,10 @@ looked_first layout held wants flags apart = record {
       (λ images. flags_none flags (failing images (targets layout [])) (λ slot. refl));
 }
 
+-- one more was looked at
 pub looked_more : (layout : Layout) (held : Option Images) (wants left : List Want) (old mid new : List Bool) (want : Want) (rest : List Want) (t : Target)
     → left ≡ want ∷ rest → sought layout want ≡ Ok t → LookedAt layout held wants left old mid
-    → IfSome held (λ images. Flags mid (λ slot. fails_on images slot t) new)
-    → LookedAt layout held wants rest old new
+    → IfSome held (λ images. Flags mid (λ slot. fails_on images slot t) new) → LookedAt layout held wants rest old new
 looked_more layout held wants left old mid new want rest t is e h flags = record {
   past = h.past ++ want ∷ [];
   split = h.split ∙ ap (λ xs. h.past ++ xs) is ∙ sym (append_assoc h.past (want ∷ []) rest);
@@ -241,8 +234,7 @@ looked_more layout held wants left old mid new want rest t is e h flags = record
       (λ images one two. flags_then old mid new (failing images (targets layout h.past)) (λ slot. fails_on images slot t)
       (failing images (targets layout (h.past ++ want ∷ []))) one two (λ slot.
       sym (ap (list_any (fails_on images slot)) (one_target layout h.past want t [] e) ∙ list_any-append (fails_on images slot) (targets layout h.past) (t ∷ [])
-      ∙ ap (λ b. list_any (fails_on images slot) (targets layout h.past) || b) (or-false (fails_on images slot t)))))
-      h.flags flags;
+      ∙ ap (λ b. list_any (fails_on images slot) (targets layout h.past) || b) (or-false (fails_on images slot t))))) h.flags flags;
 }
 
 -- the next one has a position
@@ -265,6 +257,7 @@ pub looked_passed : (layout : Layout) (held : Option Images) (wants : List Want)
 looked_passed layout held wants old new false left end rest p h = subst (λ ws. LookedAt layout held wants ws old new) (sym p) h
 looked_passed layout held wants old new true left end rest p h = looked_plain layout held wants old new p.past left rest p.split p.plain h
 
+-- all were looked at: the flags are those of the images that fail
 pub looked_done : (layout : Layout) (held : Option Images) (wants left : List Want) (old new : List Bool) → left ≡ [] → LookedAt layout held wants left old new
     → IfSome held (λ images. Flags old (failing images (targets layout wants)) new)
 looked_done layout held wants left old new none h =

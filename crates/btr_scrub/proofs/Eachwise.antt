@@ -1,43 +1,49 @@
 -- A program whose steps are treated one after another.
 use Rattle.std.proofs.Common.{◌≡◌, List, [], ◌∷◌, Result, Ok, Err, refl, sym, ap, ◌∙◌, subst, append-nil}
-use Rattle.btr_prog.specs.Answers.{Halt, Follows, no_part}
+use Rattle.btr_scrub.proofs.Common.{Follows, Map, Mark, Return, UnreadBlock, Want, bind, exec, exec-bind, no_part, steps_of}
+use Rattle.btr_prog.specs.Answers.{Halt}
 use Rattle.btr_prog.specs.Goes.{AfterTo, GoOnTo, ThreadsTo}
-use Rattle.btr_prog.specs.Prog.{Return, Mark, Wants, Does, Run, run, first, prepend, bind, exec, and_then, after, steps_of, want_marks}
+use Rattle.btr_prog.specs.Prog.{Wants, Does, Run, run, first, prepend, and_then, after, want_marks}
 use Rattle.btr_prog.specs.Thread.{end_of, go_on_run, thread_run}
 use Rattle.btr_prog.proofs.Cursors.{cursor_halts}
-use Rattle.btr_prog.proofs.Runs.{exec-bind}
 use Rattle.btr_prog.proofs.SoFars.{threads_exec}
 use Rattle.btr_prog.proofs.Threads.{after_same, exec-thread}
 use Rattle.btr_read.specs.Fate as fate
-use Rattle.btr_read.specs.declared.want.Want.{Want}
-use Rattle.btr_walk.specs.Reading.{Map, UnreadBlock}
 use Rattle.btr_volume.specs.Lookup.{Program, each}
 
 module _ {X T St : Type 0} (treat : St → X → Program T St) (B : Map) where
+  -- an item treated, which leaves a state to go on with
   abbrev body : St → X → Program T (Result St St)
   body st x = bind (treat st x) (λ v. Return (Ok v))
 
+  -- at the end the state is as it is
   abbrev fin : St → Unit {0} → St
   fin st u = st
 
+  -- a run each of whose items is treated, from a state on
   abbrev run_each : St → Run Want fate.Fault X (Unit {0}) → Run Want fate.Fault T St
   run_each st r = thread_run (λ st x. exec B (body st x)) fin st r.marks r.ending
 
+  -- a run that does nothing, and goes on with a state
   abbrev gone_on : St → Run Want fate.Fault T (Result St St)
   gone_on a = run [] (Ok (Ok a))
 
+  -- to run a program that treats each item is to treat each item of its run
   exec_each : (st : St) (p : Program X (Unit {0})) → exec B (each treat st p) ≡ run_each st (exec B p)
   exec_each st p = exec-thread B body fin st p
 
+  -- wants before a run stay before it when its items are treated
   each_past : (ws : List Want) (st : St) (r : Run Want fate.Fault X (Unit {0})) → run_each st (prepend (want_marks ws) r)
       ≡ prepend (want_marks ws) (run_each st r)
   each_past [] st r = refl
   each_past (w ∷ ws) st r = ap (first (Wants w)) (each_past ws st r)
 
+  -- to say that it goes on with a value, and to go on with it, is to go on with it at once
   twice : (ms : List (Mark Want T)) (e : Result St fate.Fault) (k : St → Run Want fate.Fault T St) → and_then (after ms e gone_on) (go_on_run k) ≡ after ms e k
   twice ms (Ok a) k = ap (λ m. prepend m (k a)) (append-nil ms)
   twice ms (Err f) k = refl
 
+  -- where a run begins with an item, that is treated first, and the rest from the state that it left
   each_does : (x : X) (st : St) (r : Run Want fate.Fault X (Unit {0})) → run_each st (first (Does x) r) ≡ and_then (exec B (treat st x)) (λ v. run_each v r)
   each_does x st r =
       ap (λ b. and_then b (go_on_run (λ v. thread_run (λ st x. exec B (body st x)) fin v r.marks r.ending))) (exec-bind B (treat st x) (λ v. Return (Ok v)))
@@ -55,9 +61,11 @@ module _ {X T St : Type 0} (treat : St → X → Program T St) (B : Map) where
       (λ v. sym (exec_each v q))
       ∙ sym (exec-bind B (treat st x) (λ v. each treat v q)))
 
+  -- a run is that of an item treated
   abbrev Exec : St → X → Run Want fate.Fault T (Result St St) → Type 0
   Exec st x b = b ≡ exec B (body st x)
 
+  -- behind one item's run it goes on from the state that this left, or ends with its result, or with its fault
   some_after : (ms : List (Mark Want X)) (e : Result (Unit {0}) fate.Fault)
       → ((st : St) → ThreadsTo Exec fin st ms e (thread_run (λ st x. exec B (body st x)) fin st ms e))
       → (marks : List (Mark Want T)) (y : Result (Result St St) fate.Fault)
@@ -66,6 +74,7 @@ module _ {X T St : Type 0} (treat : St → X → Program T St) (B : Map) where
   some_after ms e h marks (Ok (Err y)) = (run [] (Ok y), refl, refl)
   some_after ms e h marks (Err f) = refl
 
+  -- it treats the items one after another, each by the run of treating it
   some_all : (st : St) (ms : List (Mark Want X)) (e : Result (Unit {0}) fate.Fault)
       → ThreadsTo Exec fin st ms e (thread_run (λ st x. exec B (body st x)) fin st ms e)
   some_all st [] e = refl
@@ -80,6 +89,7 @@ module _ {X T St : Type 0} (treat : St → X → Program T St) (B : Map) where
       seen st (exec B p) h f in
       subst (λ q. Follows Is no_part seen q [] (Err h)) (threads_exec B body fin st p g.0 g.1) g.2
 
+  -- where a run has no items and came to its end, nothing is done, and the state is as it was
   all_none : (st : St) (ms : List (Mark Want X)) (e : Result (Unit {0}) fate.Fault) → [] ≡ steps_of ms → e ≡ Ok tt
       → ([] ≡ steps_of (run_each st (run ms e)).marks) × ((run_each st (run ms e)).ending ≡ Ok st)
   all_none st [] e n h = (

@@ -1,7 +1,7 @@
 -- What holds of the steps of a run, by how it ends.
 use Rattle.std.proofs.Common.{ℕ, List, [], ◌∷◌, ◌++◌, Result, Ok, Err, sym, subst, append-nil, append_assoc}
-use Rattle.btr_prog.specs.Prog.{BlockMap, Prog, Return, Stop, Need, Emit, bind, exec, given, steps_of}
-use Rattle.btr_prog.specs.Quiet.{quiet}
+use Rattle.btr_scrub.proofs.Common.{Emit, Return, bind, exec, quiet, steps_of}
+use Rattle.btr_prog.specs.Prog.{BlockMap, Prog, Stop, Need, given}
 use Rattle.btr_prog.specs.Thread.{go_on, thread}
 
 module _ {F S A : Type 0} where
@@ -10,6 +10,7 @@ module _ {F S A : Type 0} where
   Holds Q P xs (Ok a) = Q xs a
   Holds Q P xs (Err f) = P xs
 
+  -- what holds at an end may be made less, that of a value and that of a fault
   holds_as : (Q R : List S → A → Type 0) (P T : List S → Type 0) → ((xs : List S) (a : A) → Q xs a → R xs a) → ((xs : List S) → P xs → T xs)
       → (xs : List S) (r : Result A F) → Holds Q P xs r → Holds R T xs r
   holds_as Q R P T one other xs (Ok a) h = one xs a h
@@ -25,6 +26,7 @@ module _ {W F S : Type 0} (B : BlockMap W F) where
   abbrev pub Ends : {A : Type 0} → Prog W F S A → (List S → A → Type 0) → (List S → Type 0) → Type 0
   Ends p Q P = Holds Q P (steps_of (exec B p).marks) (exec B p).ending
 
+  -- what ends in one way ends in a weaker one
   pub ends_as : {A : Type 0} (p : Prog W F S A) (Q R : List S → A → Type 0) (P T : List S → Type 0) → ((xs : List S) (a : A) → Q xs a → R xs a)
       → ((xs : List S) → P xs → T xs) → Ends p Q P → Ends p R T
   ends_as p Q R P T one other h = holds_as Q R P T one other (steps_of (exec B p).marks) (exec B p).ending h
@@ -72,26 +74,33 @@ module _ {W F S T St : Type 0} (B : BlockMap W F) (treat : St → T → Prog W F
     (so : (xs : List S) (st : St) → Inv xs st → Far xs)
     (one : (st : St) (s : T) → Is s → Ends B (treat st s) (λ ys st'. (xs : List S) → Inv xs st → Inv (xs ++ ys) st')
     (λ ys. (xs : List S) → Inv xs st → Far (xs ++ ys))) where
+  -- what holds of all steps before and a state holds with these steps and the state behind them
   abbrev grows : St → List S → St → Type 0
   grows st ys st' = (xs : List S) → Inv xs st → Inv (xs ++ ys) st'
 
+  -- what holds of all steps before and a state leaves with these steps what holds before a fault
   abbrev far : St → List S → Type 0
   far st ys = (xs : List S) → Inv xs st → Far (xs ++ ys)
 
+  -- the same of what an item leaves, which is always a state to go on with
   abbrev kept : St → List S → Result St St → Type 0
   kept st ys (Ok st') = grows st ys st'
   kept st ys (Err r) = ⊥
 
+  -- an item treated, which is gone on from with the state that it leaves
   abbrev body : St → T → Prog W F S (Result St St)
   body st s = bind (treat st s) (λ st'. Return (Ok st'))
 
+  -- one item that is treated ends so
   once : (st : St) (s : T) → Is s → Ends B (body st s) (kept st) (far st)
   once st s is = ends_bind B (treat st s) (λ st'. Return (Ok st')) (grows st) (kept st) (far st) (one st s is)
       (λ st' ys q xs i. subst (λ zs. Inv (xs ++ zs) st') (sym (append-nil ys)) (q xs i))
 
+  -- without a step more, what holds of all before leaves what holds before a fault
   none_yet : (st : St) → far st []
   none_yet st xs i = subst Far (sym (append-nil xs)) (so xs st i)
 
+  -- a program that treats each item ends as its steps do
   pub each_ends : (p : Prog W F T (Unit {0})) → Yields Is p → (st : St) → Ends B (thread body (λ st u. st) st p) (grows st) (far st)
   each_ends (Return u) y st = λ xs i. subst (λ zs. Inv zs st) (sym (append-nil xs)) i
   each_ends (Stop f) y st = none_yet st
@@ -101,6 +110,7 @@ module _ {W F S T St : Type 0} (B : BlockMap W F) (treat : St → T → Prog W F
       ends_bind B (body st s) (go_on (λ st'. thread body (λ st u. st) st' p)) (kept st) (grows st) (far st) (once st s y.0)
       (λ r zs q. then r zs q (λ st'. each_ends p y.1 st'))
     where
+      -- behind the steps of the first item the rest ends so
       then : (r : Result St St) (zs : List S) → kept st zs r → ((st' : St) → Ends B (thread body (λ st u. st) st' p) (grows st') (far st'))
           → Ends B (go_on (λ st'. thread body (λ st u. st) st' p) r) (λ ys st''. grows st (zs ++ ys) st'') (λ ys. far st (zs ++ ys))
       then (Ok st') zs q rest =

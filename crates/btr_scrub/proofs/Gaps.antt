@@ -1,36 +1,22 @@
 -- Sectors without a checksum that follow each other are listed at once.
-use Rattle.std.proofs.Common.{◌≡◌, ℕ, zero, suc, ◌+◌, ◌-◌, ◌*◌, ◌^◌, ◌≤◌, ◌<◌, List, [], ◌∷◌, ◌++◌, Option, None, Result, Ok, Err, OnOk}
+use Rattle.std.proofs.Common.{◌≡◌, ℕ, zero, suc, ◌+◌, ◌-◌, ◌*◌, ◌^◌, ◌≤◌, ◌<◌, [], ◌∷◌, ◌++◌, Option, None, Result, Ok, Err, OnOk}
 use Rattle.std.proofs.Common.{refl, sym, ap, ◌∙◌, subst, arith}
 use Rattle.std.specs.Prelude.{fold, min}
-use Rattle.btr_base.specs.declared.stored.Sum.{Sum}
-use Rattle.btr_prog.specs.Answers.{Follows, no_part}
-use Rattle.btr_prog.specs.Prog.{bind, exec, steps_of}
-use Rattle.btr_prog.specs.Quiet.{quiet}
+use Rattle.btr_scrub.proofs.Common.{AddsAll, Follows, Gathered, Gathers, Lists, Map, OnlyReads, Plain, SameVolume, Scene, Seen, Serves, Sum, Super, Tells}
+use Rattle.btr_scrub.proofs.Common.{TreeRoot, UnreadBlock, Volume, Want, bind, count_met, drawn, exec, exec-bind, kept_wants, kind_in, no_part, plains_from}
+use Rattle.btr_scrub.proofs.Common.{quiet, scene, sector, sector_met, sectors, steps_of, sum_at, unread_by, wants_among}
 use Rattle.btr_prog.proofs.Follow.{follows_then}
 use Rattle.btr_prog.proofs.Quieting.{follows_quiet}
-use Rattle.btr_prog.proofs.Runs.{exec-bind}
-use Rattle.btr_rack.specs.Rack.{OnlyReads, Seen}
-use Rattle.btr_read.specs.Serves.{Serves}
-use Rattle.btr_read.specs.declared.want.Want.{Want}
-use Rattle.btr_read.specs.declared.want.Want.TheVariants.{Plain}
-use Rattle.btr_super.specs.declared.superblock.Super.{Super}
-use Rattle.btr_walk.specs.Reading.{Map, Tells, UnreadBlock, unread_by}
-use Rattle.btr_walk.proofs.Joined.{drawn}
-use Rattle.btr_volume.specs.Looking.{SameVolume}
-use Rattle.btr_volume.specs.declared.root.TreeRoot.{TreeRoot}
-use Rattle.btr_volume.specs.declared.volume.Volume.{Volume}
 use Rattle.btr_files.specs.Gaps.{HaveNone}
-use Rattle.btr_files.specs.Sums.{kind_in, sum_at}
 use Rattle.btr_files.proofs.Binds.{bind_assoc, bind_same}
-use Rattle.btr_scrub.specs.Gathering.{Gathers, Lists, Scene, count_met, gap_met, scene, sectors_met, wants_among}
-use Rattle.btr_scrub.specs.Listed.{AddsAll, kept_wants, plains_from}
-use Rattle.btr_scrub.specs.Units.{sector, sector_met, sectors}
-use Rattle.btr_scrub.specs.declared.gathered.Gathered.{Gathered}
+use Rattle.btr_scrub.specs.Gathering.{gap_met, sectors_met}
 use Rattle.btr_scrub.proofs.Gathering.{gathers_then, gathers_value}
 use Rattle.btr_scrub.proofs.OneSector.{met_of}
+use Rattle.btr_files.proofs.AheadLooks.{no_steps}
 
 -- ---- what is listed
 
+-- what is met in a gap are sectors without a checksum
 among_gap : (n addr : ℕ) → wants_among (gap_met n addr) ≡ plains_from addr n
 among_gap zero addr = refl
 among_gap (suc n) addr = ap (λ ws. Plain addr ∷ ws) (among_gap n (addr + 4096))
@@ -39,23 +25,25 @@ among_gap (suc n) addr = ap (λ ws. Plain addr ∷ ws) (among_gap n (addr + 4096
 abbrev capped : ℕ → ℕ
 capped n = min n (2 ^ 64 - 1)
 
+-- one more from a count that stood still stands as one more from the count itself
 capped_next : (u : ℕ) → capped (capped u + 1) ≡ capped (u + 1)
 capped_next u = grind arith
 
+-- a count that stands still counts each sector of a gap
 count_more : (n addr u : ℕ) → fold count_met (capped u) (gap_met n addr) ≡ capped (u + n)
 count_more zero addr u = ap capped (omega arith)
 count_more (suc n) addr u =
     let all : u + 1 + n ≡ u + suc n = omega arith in
     ap (λ m. fold count_met m (gap_met n (addr + 4096))) (capped_next u) ∙ count_more n (addr + 4096) (u + 1) ∙ ap capped all
 
+-- so does any count, where the gap has a sector
 count_gap : (n addr u : ℕ) → 1 ≤ n → fold count_met u (gap_met n addr) ≡ capped (u + n)
 count_gap zero addr u some = absurd (omega (arith, some))
 count_gap (suc n) addr u some = let all : u + 1 + n ≡ u + suc n = omega arith in count_more n (addr + 4096) (u + 1) ∙ ap capped all
 
 -- a gap was listed behind what was listed before, if there was memory
 pub lists_gap : {E : Type 0} (result : Result (Unit {0}) E) (x y : Gathered) (addr n : ℕ) → 1 ≤ n
-    → OnOk result (AddsAll x.list y.list (plains_from addr n)) → y.unchecked ≡ min (x.unchecked + n) (2 ^ 64 - 1)
-    → OnOk result (Lists x y (gap_met n addr))
+    → OnOk result (AddsAll x.list y.list (plains_from addr n)) → y.unchecked ≡ min (x.unchecked + n) (2 ^ 64 - 1) → OnOk result (Lists x y (gap_met n addr))
 lists_gap (Err f) x y addr n some h count = tt
 lists_gap (Ok u) x y addr n some h count = record {
   is_list = h.is_list;
@@ -65,10 +53,6 @@ lists_gap (Ok u) x y addr n some h count = record {
 }
 
 -- ---- what sectors come to
-
-no_steps : (xs : List ⊥) → [] ≡ xs
-no_steps [] = refl
-no_steps (x ∷ xs) = absurd x
 
 module _ (Is : UnreadBlock → Want → Type 0) (B : Map) (s : Super) (sums : Option TreeRoot) where
   -- a sector was met, for which this was found
@@ -120,6 +104,7 @@ gathers_one s sums addr x y h =
 
 -- ---- some sectors, and more behind them
 
+-- to list some sectors and more is to list these, and then those behind them
 sectors_both : (s : Super) (sums : Option TreeRoot) (n m addr : ℕ) → sectors s sums (n + m) addr
     ≡ bind (sectors s sums n addr) (λ u. sectors s sums m (addr + n * 4096))
 sectors_both s sums zero m addr =
@@ -136,8 +121,7 @@ sectors_both s sums (suc n) m addr =
     ∙ sym (bind_assoc (sector s sums addr) (λ u. sectors s sums n (addr + 4096)) (λ v. sectors s sums m (addr + suc n * 4096)))
 
 -- what is left of sectors, behind some of them
-pub sectors_some : (s : Super) (sums : Option TreeRoot) (count addr done n : ℕ) → done + n ≤ count
-    → sectors s sums (count - done) (addr + done * 4096)
+pub sectors_some : (s : Super) (sums : Option TreeRoot) (count addr done n : ℕ) → done + n ≤ count → sectors s sums (count - done) (addr + done * 4096)
     ≡ bind (sectors s sums n (addr + done * 4096)) (λ u. sectors s sums (count - (done + n)) (addr + (done + n) * 4096))
 sectors_some s sums count addr done n le =
     let parts : count - done ≡ n + (count - (done + n)) = omega (arith, le) in

@@ -1,50 +1,46 @@
 -- Calls that list the checked blocks, one after another.
 use Rattle.std.proofs.Common.{◌≡◌, ℕ, List, [], ◌∷◌, ◌++◌, Result, Ok, Err, OnOk, refl, sym, ap, ◌∙◌, subst, inl, inr, append-nil, append_assoc}
 use Rattle.std.specs.Prelude.{fold}
-use Rattle.btr_prog.specs.Answers.{Broke, Follows, no_part}
-use Rattle.btr_prog.specs.Prog.{Return, Stop, Emit, Mark, run, prepend, bind, exec, steps_of, wants_of}
-use Rattle.btr_prog.specs.Quiet.{quiet}
+use Rattle.btr_scrub.proofs.Common.{AddsTo, Checked, Emit, Follows, Gathered, Gathers, HasPassed, IsList, Layout, Lists, Looks, Map, Mark, Meeting, Met}
+use Rattle.btr_scrub.proofs.Common.{OnlyReads, Plain, Return, SameVolume, Scene, Seen, Serves, Tells, TreeFault, Volume, Want, bind, count_met, drawn, exec}
+use Rattle.btr_scrub.proofs.Common.{exec-bind, kept_wants, no_part, quiet, reads_more, scene, steps_of, unread_by, wants_among}
+use Rattle.btr_prog.specs.Prog.{Stop, run, prepend, wants_of}
 use Rattle.btr_prog.proofs.Follow.{broke_here, follows_alone, follows_as, follows_behind, follows_halt, follows_then}
 use Rattle.btr_prog.proofs.Quieting.{follows_quiet}
-use Rattle.btr_prog.proofs.Runs.{after-ok, exec-bind, prepend-prepend, steps_of-append}
-use Rattle.btr_rack.specs.Rack.{OnlyReads, Seen}
-use Rattle.btr_rack.proofs.Reading.{reads_more, reads_none}
+use Rattle.btr_prog.proofs.Runs.{after-ok, prepend-prepend, steps_of-append}
+use Rattle.btr_rack.proofs.Reading.{reads_none}
 use Rattle.btr_read.specs.Fate as fate
 use Rattle.btr_read.specs.Fate.{fate}
-use Rattle.btr_read.specs.Layout.{Layout}
-use Rattle.btr_read.specs.Serves.{Serves}
-use Rattle.btr_read.specs.declared.want.Want.{Want}
-use Rattle.btr_read.specs.declared.want.Want.TheVariants.{Plain}
-use Rattle.btr_walk.specs.declared.fault.TreeFault.{TreeFault}
 use Rattle.btr_walk.specs.declared.fault.TreeFault.TheVariants as tree
-use Rattle.btr_walk.specs.Reading.{FaultCause, HasCause, Map, Tells, halt_of, unread_by}
+use Rattle.btr_walk.specs.Reading.{FaultCause, HasCause, halt_of}
 use Rattle.btr_walk.proofs.Fetched.{cause_since, since}
-use Rattle.btr_volume.specs.Looking.{Looks, SameVolume}
 use Rattle.btr_volume.specs.Lookup.{Lookup}
 use Rattle.btr_volume.specs.declared.stop.Stop.{Stop as TheStop}
 use Rattle.btr_volume.specs.declared.stop.Stop.TheVariants as stop
-use Rattle.btr_volume.specs.declared.volume.Volume.{Volume}
-use Rattle.btr_walk.proofs.Joined.{drawn, joined, unread_on}
-use Rattle.btr_scrub.specs.Gathering.{Gathers, IsCrossing, Lists, Reaches, Scene, TreeCause, StopCause, wants_among, count_met, scene}
-use Rattle.btr_scrub.specs.Listed.{AddsTo, IsList, kept_wants}
-use Rattle.btr_scrub.specs.Units.{Checked, Meeting, Met, Unchecked}
-use Rattle.btr_scrub.specs.declared.gathered.Gathered.{Gathered}
+use Rattle.btr_walk.proofs.Joined.{joined, unread_on}
+use Rattle.btr_scrub.specs.Gathering.{IsCrossing, TreeCause, StopCause}
+use Rattle.btr_scrub.specs.Units.{Unchecked}
 use Rattle.btr_volume.specs.Stops.{ended, stop_halt}
+pub use Rattle.btr_volume.proofs.Onward.{same_self, same_then}
 
 -- ---- what is listed
 
+-- the wants of two lists of what was met are those of the first, and then those of the second
 pub among-append : (met more : List Met) → wants_among (met ++ more) ≡ wants_among met ++ wants_among more
 among-append [] more = refl
 among-append (Checked want ∷ met) more = ap (λ q. want ∷ q) (among-append met more)
 among-append (Unchecked addr ∷ met) more = ap (λ q. Plain addr ∷ q) (among-append met more)
 
+-- sectors without a checksum are counted one list behind the other
 count-append : (n : ℕ) (met more : List Met) → fold count_met n (met ++ more) ≡ fold count_met (fold count_met n met) more
 count-append n [] more = refl
 count-append n (m ∷ met) more = count-append (count_met n m) met more
 
+-- nothing was listed
 pub lists_none : (x : Gathered) → IsList x.list → Lists x x []
 lists_none x is = record { is_list = is; kind = refl; wants = sym (append-nil (kept_wants x.list)); unchecked = refl }
 
+-- what is listed in two steps is listed
 pub lists_then : (x y z : Gathered) (done more : List Met) → Lists x y done → Lists y z more → Lists x z (done ++ more)
 lists_then x y z done more h g = record {
   is_list = g.is_list;
@@ -54,22 +50,11 @@ lists_then x y z done more h g = record {
   unchecked = g.unchecked ∙ ap (λ n. fold count_met n more) h.unchecked ∙ sym (count-append x.unchecked done more);
 }
 
+-- a block that was put behind the list is listed
 pub lists_added : (x y : Gathered) (want : Want) → AddsTo x.list y.list want → y.unchecked ≡ x.unchecked → Lists x y (Checked want ∷ [])
 lists_added x y want a same = record { is_list = a.is_list; kind = a.kind; wants = a.wants; unchecked = same }
 
 -- ---- what is told
-
-pub same_then : {a b c : Volume} → SameVolume a b → SameVolume b c → SameVolume a c
-same_then one two = record {
-  sup = two.sup ∙ one.sup;
-  store = record {
-    layout = two.store.layout ∙ one.store.layout;
-    loans = two.store.loans ∙ one.store.loans;
-  };
-}
-
-pub same_self : (vol : Volume) → SameVolume vol vol
-same_self vol = record { sup = refl; store = record { layout = refl; loans = refl } }
 
 -- what lies behind a fault of a later call
 tree_cause_since : {a b : Seen} (c : Seen) (layout layout' : Layout) (f : TreeFault) → layout' ≡ layout → OnlyReads a b → TreeCause layout' b c f
@@ -81,6 +66,7 @@ tree_cause_since c layout layout' (tree.Crosses x) e reads (inl h) = inl (cause_
 tree_cause_since c layout layout' (tree.Crosses x) e reads (inr h) = inr (subst (λ l. IsCrossing l x) e h)
 tree_cause_since c layout layout' (tree.Malformed x) e reads h = tt
 
+-- what lies behind a tree's fault lies behind it here
 pub tree_cause : (layout : Layout) (a b : Seen) (f : TreeFault) → FaultCause layout a b f → TreeCause layout a b f
 tree_cause layout a b (tree.Lost x) h = h
 tree_cause layout a b (tree.Unread x slot) h = h
@@ -114,24 +100,30 @@ cause_kept A C layout a b stop.Sink h = h
 cause_kept A C layout a b stop.Out h = h
 cause_kept A C layout a b stop.Memory h = h
 
+-- what follows from an answer follows from it where there is one
 on_ok : {A P Q : Type 0} (r : Result A TheStop) → (P → Q) → OnOk r P → OnOk r Q
 on_ok (Ok a) f h = f h
 on_ok (Err e) f h = tt
 
 -- ---- calls
 
+-- no call was made
+gathers_here : {A : Type 0} (p : Meeting A) (rack : Seen) (vol : Volume) (l m : Gathered) (done : List Met) (r : Result A TheStop) → Serves rack vol.store
+    → OnOk r (Lists l m done) → ((B : Map) → Follows (unread_by vol.store.layout rack rack) no_part [] (exec B p) done (ended r))
+    → StopCause vol.store.layout rack rack r → Gathers p (scene rack vol l) (scene rack vol m) r
+gathers_here p rack vol l m done r serves lists follows cause = record {
+  reads = reads_none rack;
+  volume = same_self vol;
+  serves = serves;
+  done = done;
+  lists = lists;
+  content = unread_on vol.store.layout (λ B. Follows (unread_by vol.store.layout rack rack) no_part [] (exec B p) done (ended r)) follows;
+  cause = cause;
+}
+
 -- nothing was done
 pub gathers_value : {A : Type 0} (a : A) (x : Scene) → IsList x.list.list → Serves x.rack x.vol.store → Gathers (Return a) x x (Ok a)
-gathers_value a x is serves = record {
-  reads = reads_none x.rack;
-  volume = same_self x.vol;
-  serves = serves;
-  done = [];
-  lists = lists_none x.list is;
-  content = unread_on x.vol.store.layout (λ B. Follows {S = Met} (unread_by x.vol.store.layout x.rack x.rack) no_part [] (run [] (Ok a)) [] (Ok a))
-      (λ B. (refl, refl));
-  cause = tt;
-}
+gathers_value a x is serves = gathers_here (Return a) x.rack x.vol x.list x.list [] (Ok a) serves (lists_none x.list is) (λ B. (refl, refl)) tt
 
 -- calls were made, of which something is told, and nothing was listed
 pub gathers_none : (P : Map → Type 0) (old new : Seen) (vol after : Volume) (x y : Gathered) → Lists x y [] → Serves new after.store → OnlyReads old new
@@ -150,47 +142,23 @@ gathers_none P old new vol after x y listed serves reads same told = record {
 -- one block was met
 pub gathers_met : (m : Met) (rack : Seen) (vol : Volume) (x y : Gathered) → Lists x y (m ∷ []) → Serves rack vol.store
     → Gathers {A = Unit {0}} (Emit m (Return tt)) (scene rack vol x) (scene rack vol y) (Ok tt)
-gathers_met m rack vol x y l serves = record {
-  reads = reads_none rack;
-  volume = same_self vol;
-  serves = serves;
-  done = m ∷ [];
-  lists = l;
-  content = unread_on vol.store.layout (λ B. Follows (unread_by vol.store.layout rack rack) no_part [] (exec B (Emit m (Return tt))) (m ∷ []) (Ok tt))
-      (λ B. (refl, refl));
-  cause = tt;
-}
+gathers_met m rack vol x y l serves = gathers_here (Emit m (Return tt)) rack vol x y (m ∷ []) (Ok tt) serves l (λ B. (refl, refl)) tt
 
 -- no memory was had
 pub gathers_memory : {A : Type 0} (p : Meeting A) (rack : Seen) (vol : Volume) (l m : Gathered) → Serves rack vol.store
     → Gathers p (scene rack vol l) (scene rack vol m) (Err stop.Memory)
-gathers_memory p rack vol l m serves = record {
-  reads = reads_none rack;
-  volume = same_self vol;
-  serves = serves;
-  done = [];
-  lists = tt;
-  content = unread_on vol.store.layout (λ B. Follows (unread_by vol.store.layout rack rack) no_part [] (exec B p) [] (Err Broke))
-      (λ B. broke_here (unread_by vol.store.layout rack rack) no_part [] (exec B p));
-  cause = tt;
-}
+gathers_memory p rack vol l m serves = gathers_here p rack vol l m [] (Err stop.Memory) serves tt
+    (λ B. broke_here (unread_by vol.store.layout rack rack) no_part [] (exec B p)) tt
 
 -- a rule was broken
 pub gathers_malformed : {A : Type 0} (leaf : ℕ) (x : Scene) → Serves x.rack x.vol.store
     → Gathers {A = A} (Stop (fate.Malformed leaf)) x x (Err (stop.Tree (tree.Malformed leaf)))
-gathers_malformed {A} leaf x serves = record {
-  reads = reads_none x.rack;
-  volume = same_self x.vol;
-  serves = serves;
-  done = [];
-  lists = tt;
-  content = unread_on x.vol.store.layout (λ B. Follows {S = Met} {A = A} (unread_by x.vol.store.layout x.rack x.rack) no_part []
-      (run [] (Err (fate.Malformed leaf))) [] (Err (halt_of (tree.Malformed leaf)))) (λ B. (refl, refl));
-  cause = tt;
-}
+gathers_malformed leaf x serves = gathers_here (Stop (fate.Malformed leaf)) x.rack x.vol x.list x.list [] (Err (stop.Tree (tree.Malformed leaf))) serves tt
+    (λ B. (refl, refl)) tt
 
 -- a lookup, which meets nothing
 module _ {A : Type 0} (p : Lookup A) (old new : Seen) (vol after : Volume) (list : Gathered) where
+  -- it gave an answer
   pub gathers_found : (a : A) → IsList list.list → Serves new after.store → OnlyReads old new → SameVolume vol after
       → Looks vol.store.layout old new p (Ok a) → Gathers (quiet p) (scene old vol list) (scene new after list) (Ok a)
   gathers_found a is serves reads same l = record {
@@ -205,6 +173,7 @@ module _ {A : Type 0} (p : Lookup A) (old new : Seen) (vol after : Volume) (list
     cause = tt;
   }
 
+  -- or came to a fault
   pub gathers_fault : (f : TreeFault) → Serves new after.store → OnlyReads old new → SameVolume vol after
       → HasCause {A = A} vol.store.layout old new (Err f) → Looks vol.store.layout old new p (Err f)
       → Gathers (quiet p) (scene old vol list) (scene new after list) (Err (stop.Tree f))
@@ -222,6 +191,7 @@ module _ {A : Type 0} (p : Lookup A) (old new : Seen) (vol after : Volume) (list
 
 -- one call after another
 module _ {A C : Type 0} (p : Meeting A) (k : A → Meeting C) (x y : Scene) where
+  -- both were done
   pub gathers_then : (z : Scene) (a : A) (r : Result C TheStop) → Gathers p x y (Ok a) → Gathers (k a) y z r → Gathers (bind p k) x z r
   gathers_then z a r h g =
       let layout = x.vol.store.layout in
@@ -239,11 +209,11 @@ module _ {A C : Type 0} (p : Meeting A) (k : A → Meeting C) (x y : Scene) wher
             (follows_then (unread_by layout x.rack z.rack) no_part [] (exec B p) a (λ v. exec B (k v)) h.done g.done (ended r) f
             (follows_alone (unread_by layout x.rack z.rack) no_part (wants_of (exec B p).marks) (exec B (k a)) g.done (ended r)
             (follows_as (unread_by y.vol.store.layout y.rack z.rack) (unread_by layout x.rack z.rack) (since layout y.vol.store.layout same h.reads)
-            no_part [] (exec B (k a)) g.done (ended r) t))))
-            h.content g.content;
+            no_part [] (exec B (k a)) g.done (ended r) t)))) h.content g.content;
         cause = stop_cause_since z.rack layout y.vol.store.layout r same h.reads g.cause;
       }
 
+  -- the first came to a stop
   pub gathers_halt : (s : TheStop) → Gathers p x y (Err s) → Gathers (bind p k) x y (Err s)
   gathers_halt s h = record {
     reads = h.reads;
@@ -261,7 +231,7 @@ module _ {A C : Type 0} (p : Meeting A) (k : A → Meeting C) (x y : Scene) wher
 -- ---- loops
 
 -- nothing is past yet
-pub reaches_none : {A : Type 0} (p : Meeting A) (x : Scene) → IsList x.list.list → Serves x.rack x.vol.store → Reaches p p x x
+pub reaches_none : {A : Type 0} (p : Meeting A) (x : Scene) → IsList x.list.list → Serves x.rack x.vol.store → HasPassed p p x x
 reaches_none p x is serves = record {
   reads = reads_none x.rack;
   volume = same_self x.vol;
@@ -272,9 +242,9 @@ reaches_none p x is serves = record {
       (λ B. ([], refl, refl));
 }
 
-module _ {A C : Type 0} (p : Meeting C) (q : Meeting A) (k : A → Meeting C) (x y : Scene) (h : Reaches p (bind q k) x y) where
+module _ {A C : Type 0} (p : Meeting C) (q : Meeting A) (k : A → Meeting C) (x y : Scene) (h : HasPassed p (bind q k) x y) where
   -- one more call went well
-  pub reaches_step : (z : Scene) (a : A) → Gathers q y z (Ok a) → Reaches p (k a) x z
+  pub reaches_step : (z : Scene) (a : A) → Gathers q y z (Ok a) → HasPassed p (k a) x z
   reaches_step z a g =
       let layout = x.vol.store.layout in
       record {
@@ -294,7 +264,7 @@ module _ {A C : Type 0} (p : Meeting C) (q : Meeting A) (k : A → Meeting C) (x
       }
 
 -- what is left was answered
-pub reaches_ends : {A : Type 0} (p q : Meeting A) (x y z : Scene) (r : Result A TheStop) → Reaches p q x y → Gathers q y z r → Gathers p x z r
+pub reaches_ends : {A : Type 0} (p q : Meeting A) (x y z : Scene) (r : Result A TheStop) → HasPassed p q x y → Gathers q y z r → Gathers p x z r
 reaches_ends p q x y z r h g =
     let layout = x.vol.store.layout in
     let same = h.volume.store.layout in
@@ -312,8 +282,7 @@ reaches_ends p q x y z r h g =
           (follows_behind (unread_by layout x.rack z.rack) no_part [] b.0 (exec B q) g.done (ended r)
           (follows_alone (unread_by layout x.rack z.rack) no_part (wants_of b.0) (exec B q) g.done (ended r)
           (follows_as (unread_by y.vol.store.layout y.rack z.rack) (unread_by layout x.rack z.rack) (since layout y.vol.store.layout same h.reads)
-          no_part [] (exec B q) g.done (ended r) f)))))
-          h.content g.content;
+          no_part [] (exec B q) g.done (ended r) f))))) h.content g.content;
       cause = stop_cause_since z.rack layout y.vol.store.layout r same h.reads g.cause;
     }
 

@@ -1,12 +1,8 @@
 -- The blocks of a row, collected one by one.
 use Rattle.std.proofs.Common.{◌≡◌, ℕ, true, cond, List, [], ◌∷◌, ◌++◌, Some, None, refl, sym, ap, ◌∙◌, subst, inl, inr, append_assoc}
-use Rattle.btr_chunk.specs.Mapping.{holds, position}
-use Rattle.btr_chunk.specs.declared.chunk.Chunk.{Chunk}
-use Rattle.btr_read.specs.Want.{addr_of}
-use Rattle.btr_read.specs.declared.want.Want.{Want}
+use Rattle.btr_scrub.proofs.Common.{Chunk, Want, addr_of, holds, in_either, position}
 use Rattle.btr_scrub.specs.BlocksInRows.{In}
 use Rattle.btr_scrub.specs.Rowing.{row_in}
-use Rattle.btr_read.proofs.Ones.{in_either}
 
 -- so far: a first block, and some behind it
 pub record CollectsSoFar (chunk : Chunk) (row : ℕ) (first : Want) (old new wants : List Want) : Type 0 where
@@ -15,10 +11,12 @@ pub record CollectsSoFar (chunk : Chunk) (row : ℕ) (first : Want) (old new wan
   pub split : old ≡ more ++ new
   pub inside : (want : Want) → In want more → row_in chunk (addr_of want) ≡ Some row
 
+-- only the first block was collected
 pub collects_first : (chunk : Chunk) (row : ℕ) (first : Want) (old wants empty : List Want) → empty ≡ [] → wants ≡ empty ++ first ∷ []
     → CollectsSoFar chunk row first old old wants
 collects_first chunk row first old wants empty none e = record { more = []; are = e ∙ ap (λ ws. ws ++ first ∷ []) none; split = refl; inside = λ w i. absurd i }
 
+-- one more was
 pub collects_more : (chunk : Chunk) (row : ℕ) (first want : Want) (old new rest wants wants' : List Want)
     → CollectsSoFar chunk row first old new wants → new ≡ want ∷ rest → row_in chunk (addr_of want) ≡ Some row → wants' ≡ wants ++ want ∷ []
     → CollectsSoFar chunk row first old rest wants'
@@ -28,8 +26,7 @@ collects_more chunk row first want old new rest wants wants' h is in_row e = rec
   split = h.split ∙ ap (λ ws. h.more ++ ws) is ∙ sym (append_assoc h.more (want ∷ []) rest);
   inside = λ w i. elim (in_either w h.more (want ∷ []) i) [
     | inl j ↦ h.inside w j
-    | inr (inl same) ↦ subst
-        (λ v. row_in chunk (addr_of v) ≡ Some row) same in_row
+    | inr (inl same) ↦ subst (λ v. row_in chunk (addr_of v) ≡ Some row) same in_row
     | inr (inr j) ↦ absurd j
   ];
 }

@@ -1,33 +1,18 @@
 -- Where no image of a chunk is behind, nothing is stale there.
 use Rattle.std.proofs.Common.{◌≡◌, ℕ, Bool, true, false, ◌&&◌, List, [], length, Option, Some, None, refl, sym, ap, ◌∙◌, subst, ◌||◌, nat_lt, cond}
-use Rattle.std.specs.List.{range_with_len}
-use Rattle.std.specs.Option.{option_map_or}
-use Rattle.btr_chunk.specs.Chunk.{mirrors}
-use Rattle.btr_chunk.specs.Mapping.{place_at}
-use Rattle.btr_chunk.specs.Table.{IsTable}
-use Rattle.btr_chunk.specs.declared.chunk.Chunk.{Chunk}
-use Rattle.btr_chunk.specs.declared.place.Part.{Part}
-use Rattle.btr_chunk.specs.declared.place.Part.TheVariants.{Mirror}
+use Rattle.btr_scrub.proofs.Common.{Chunk, Device, Failing, Images, IsSought, IsTable, Layout, Mended, Mirror, Part, Target, copy_writes, device_in, fresh}
+use Rattle.btr_scrub.proofs.Common.{fresh_writes, freshened, has_behind, has_mirror, has_older, in_below, is_on_behind, list_any-false, mirrors}
+use Rattle.btr_scrub.proofs.Common.{option_map_or, or_parts, own_parts, place_at, range_with_len, renewed, stale_parts, writes_if}
 use Rattle.btr_chunk.specs.declared.stripe.Stripe.{Stripe}
-use Rattle.btr_read.specs.Candidates.{Target}
-use Rattle.btr_read.specs.Layout.{Layout, device_in}
-use Rattle.btr_read.specs.declared.device.Device.{Device}
 use Rattle.btr_read.specs.declared.device.Member.{Member}
-use Rattle.btr_read.proofs.Ones.{in_below}
-use Rattle.btr_scrub_copies.specs.Blocks.{copy_writes, own_parts}
-use Rattle.btr_scrub_copies.specs.Writes.{Images, writes_if}
-use Rattle.btr_scrub_copies.specs.declared.mended.Mended.{Mended}
-use Rattle.btr_scrub_copies.proofs.Copied.{has_mirror}
-use Rattle.btr_scrub_copies.specs.Fresh.{Failing, fresh, fresh_writes, freshened, is_behind, is_on_behind, stale_parts, is_doubtful}
+use Rattle.btr_scrub_copies.specs.Fresh.{is_behind, is_doubtful}
 use Rattle.btr_scrub.specs.BlocksInRows.{In}
-use Rattle.btr_scrub.specs.Judged.{has_behind, has_older, is_older}
-use Rattle.btr_scrub.specs.Order.{IsSought}
+use Rattle.btr_scrub.specs.Judged.{is_older}
 use Rattle.btr_scrub.proofs.Positions.{on_stripe}
-use Rattle.btr_chunk.proofs.Searches.{fails-list_any, list_any-false}
+use Rattle.btr_chunk.proofs.Searches.{fails-list_any}
 use Rattle.btr_scrub.proofs.Lists.{of_mapped, in_some}
-use Rattle.std.proofs.lemmas.Bool.{and_left, or_parts}
+use Rattle.std.proofs.lemmas.Bool.{and_left}
 use Rattle.btr_scrub.proofs.OwnPlaces.{own_copies}
-use Rattle.btr_scrub_row.specs.Wanted.{renewed}
 use Rattle.btr_scrub_copies.proofs.Freshness.{none_stale as stale_not}
 
 -- an image that isn't older isn't behind
@@ -60,6 +45,7 @@ nothing = record { bad = 0; repaired = 0; lost = false }
 
 module _ (fails : Failing) (layout : Layout) (t : Target) (n : ℕ) (table : IsTable layout.chunks) (is : IsSought layout t) (has : mirrors t.chunk ≡ Some n)
     (inert : has_behind layout.devices fails t.chunk ≡ false) where
+  -- none of its copies lies on an image that is behind
   not_behind : (part : Part) → In part (own_parts t) → is_on_behind fails t part ≡ false
   not_behind part i =
       let k = of_mapped Mirror part (range_with_len 0 n) (subst (In part) (own_copies t n has) i) in
@@ -70,10 +56,11 @@ module _ (fails : Failing) (layout : Layout) (t : Target) (n : ℕ) (table : IsT
       ∙ fails-list_any (λ (stripe : Stripe). is_behind layout.devices fails stripe.devid) t.chunk.stripes inert on.number on.stripe on.there
 
   module _ (images : Images) where
+    -- no place of it is stale
     pub none_stale : stale_parts images fails t ≡ []
-    none_stale = stale_not images fails t
-        (list_any-false (is_on_behind fails t) (own_parts t) (λ k part e. not_behind part (in_some part (own_parts t) k e)))
+    none_stale = stale_not images fails t (list_any-false (is_on_behind fails t) (own_parts t) (λ k part e. not_behind part (in_some part (own_parts t) k e)))
 
+    -- nothing is written for it
     pub none_fresh : fresh_writes images fails t ≡ []
     none_fresh = ap (λ ps. option_map_or (λ bytes. copy_writes t bytes ps) (fresh images fails t) []) none_stale ∙ by (fresh images fails t)
       where
@@ -81,9 +68,11 @@ module _ (fails : Failing) (layout : Layout) (t : Target) (n : ℕ) (table : IsT
         by None = refl
         by (Some bytes) = refl
 
+    -- it gets no bytes
     pub none_renewed : renewed images fails t ≡ None
     none_renewed = ap (λ ps. cond (nat_lt 0 (length ps)) (fresh images fails t) None) none_stale
 
+    -- nothing is counted for it
     pub none_freshened : (write : Bool) → freshened images fails t write ≡ nothing
     none_freshened write =
         ap (λ ps. record { bad = length ps; repaired = length (writes_if write (fresh_writes images fails t)); lost = false }) none_stale

@@ -1,38 +1,29 @@
 -- A full stripe that holds nothing but plain sectors, in a chunk no image of which is in doubt: nothing is written there, and nothing counted.
 use Rattle.std.proofs.Common.{◌≡◌, ℕ, Bool, true, false, not, cond, ◌&&◌, ◌||◌, List, [], ◌∷◌, ◌++◌, length, map, nat_lt, None, IsNone, is_some, Ok, refl, sym}
 use Rattle.std.proofs.Common.{ap, ◌∙◌, subst, inl, inr}
-use Rattle.std.specs.List.{filter_map, list_all, list_any, range_with_len}
-use Rattle.std.specs.Option.{option_map_or}
-use Rattle.btr_chunk.specs.Chunk.{mirrors}
-use Rattle.btr_chunk.specs.Mapping.{place_at}
-use Rattle.btr_chunk.specs.Table.{IsTable}
-use Rattle.btr_chunk.specs.declared.place.Part.{Part}
+use Rattle.btr_scrub.proofs.Common.{Images, IsSought, IsTable, Layout, MendedRow, Part, Row, Target, Want, accepted, all_at, bad_parts, copy_writes}
+use Rattle.btr_scrub.proofs.Common.{filter_map, fresh, has_doubtful, is_checked, is_lost_block, is_on_behind, is_plain, list_any, mended_row, mending_writes}
+use Rattle.btr_scrub.proofs.Common.{mirrors, new_bytes, option_map_or, parities, parity_writes, place_at, range_with_len, renewed, row_writes, sought}
+use Rattle.btr_scrub.proofs.Common.{stale_parts, untouched, wrong_parts}
+use Rattle.std.specs.List.{list_all}
 use Rattle.btr_chunk.specs.declared.place.Part.TheVariants.{Slice}
 use Rattle.btr_chunk.specs.declared.stripe.Stripe.{Stripe}
-use Rattle.btr_read.specs.Candidates.{Target}
-use Rattle.btr_read.specs.Fate.{is_plain, sought}
-use Rattle.btr_read.specs.Layout.{Layout}
-use Rattle.btr_read.specs.declared.want.Want.{Want}
-use Rattle.btr_scrub_copies.specs.Blocks.{accepted, bad_parts, copy_writes, is_lost}
-use Rattle.btr_scrub_copies.specs.Fresh.{fresh, is_behind, is_doubtful, is_on_behind, is_on_doubtful, stale_parts}
-use Rattle.btr_scrub_copies.specs.Writes.{Images}
+use Rattle.btr_scrub_copies.specs.Blocks.{is_lost}
+use Rattle.btr_scrub_copies.specs.Fresh.{is_behind, is_doubtful, is_on_doubtful}
 use Rattle.btr_scrub_copies.proofs.Freshness.{none_stale}
-use Rattle.btr_scrub_row.specs.Mending.{IsOn, IsRowOf, is_at, mended_row}
-use Rattle.btr_scrub_row.specs.Rows.{Row, differs, has_doubtful, is_decided, is_sure, is_surer, meets, parities, parities_writes, parity_writes, row_writes}
+use Rattle.btr_scrub_row.specs.Mending.{IsOn, IsRowOf, is_at}
+use Rattle.btr_scrub_row.specs.Rows.{differs, is_decided, is_sure, is_surer, meets, parities_writes}
 use Rattle.btr_scrub_row.specs.Rows.{sector_write}
-use Rattle.btr_scrub_row.specs.Wanted.{is_checked, is_lost_block, mending_writes, new_bytes, renewed, wrong_parts}
-use Rattle.btr_scrub_row.specs.declared.mended.MendedRow.{MendedRow}
 use Rattle.btr_scrub_row.proofs.Settled.{mending_is, own as own_are}
 use Rattle.btr_scrub.specs.BlocksInRows.{In}
-use Rattle.btr_scrub.specs.Order.{IsSought}
-use Rattle.btr_scrub.specs.Rowing.{IsInert, untouched}
-use Rattle.btr_scrub.proofs.Blockwise.{filter_none}
-use Rattle.btr_scrub.proofs.Lists.{all_in, flat_none}
+use Rattle.btr_scrub.specs.Rowing.{IsInert}
+use Rattle.btr_scrub.proofs.Lists.{flat_none}
 use Rattle.btr_scrub.proofs.Positions.{is_sought, on_stripe, position_is}
 use Rattle.btr_scrub.proofs.Sums.{sum_zero}
 use Rattle.btr_chunk.proofs.Searches.{fails-list_any}
 use Rattle.btr_scrub.proofs.Inert.{sure_device}
 use Rattle.std.proofs.Math.Bool.{or-false}
+use Rattle.btr_scrub.proofs.Grouping.{filter_none}
 
 -- ---- lists
 
@@ -65,7 +56,7 @@ pub sought_in_row : (layout : Layout) (start number : ℕ) (wants : List Want) (
     → (t : Target) → In t row.blocks → IsSought layout t × (t.chunk ≡ row.chunk)
 sought_in_row layout start number wants row of t i =
     let w = sought_of_row layout wants row.blocks of.blocks t i in
-    let on = all_in (IsOn row) row.blocks t of.lie i in
+    let on = all_at (IsOn row) row.blocks t of.lie i in
     (is_sought layout w.0 t w.2, on.chunk)
 
 module _ (layout : Layout) (table : IsTable layout.chunks) (row : Row) (lie : (t : Target) → In t row.blocks → IsSought layout t × (t.chunk ≡ row.chunk))
@@ -73,18 +64,23 @@ module _ (layout : Layout) (table : IsTable layout.chunks) (row : Row) (lie : (t
   -- ---- one sector
 
   module _ (t : Target) (i : In t row.blocks) where
+    -- its position is that of its address
     is : IsSought layout t
     is = (lie t i).0
 
+    -- the block is a sector without a checksum
     plain : is_plain t.want ≡ true
-    plain = all_in (λ t. is_plain t.want ≡ true) row.blocks t inert.plain i
+    plain = all_at (λ t. is_plain t.want ≡ true) row.blocks t inert.plain i
 
+    -- it lies in the row's chunk
     mine : t.chunk ≡ row.chunk
     mine = (lie t i).1
 
+    -- which has no copies
     none : mirrors t.chunk ≡ None
     none = ap mirrors mine ∙ parity
 
+    -- its image isn't behind
     not_behind : is_on_behind row.failing t (Slice t.at.index) ≡ false
     not_behind =
         let at = on_stripe layout t (Slice t.at.index) table is (subst IsNone (sym none) refl, (position_is layout t table is).index) in
@@ -95,27 +91,34 @@ module _ (layout : Layout) (table : IsTable layout.chunks) (row : Row) (lie : (t
         (fails-list_any (λ (stripe : Stripe). is_doubtful layout.devices row.failing stripe.devid) t.chunk.stripes sure at.number at.stripe at.there)
 
     module _ (images : Images) where
+      -- so its place isn't stale
       unstale : stale_parts images row.failing t ≡ []
       unstale = none_stale images row.failing t
           (ap (list_any (is_on_behind row.failing t)) (own_are images t none) ∙ or-false (is_on_behind row.failing t (Slice t.at.index)) ∙ not_behind)
 
+      -- nor is it wrong
       none_wrong : wrong_parts images row.failing t ≡ []
       none_wrong = ap (λ b. cond b (stale_parts images row.failing t) (bad_parts images t)) plain ∙ unstale
 
+      -- it gets no bytes
       none_given : new_bytes images row.failing t ≡ None
       none_given = ap (λ b. cond b (renewed images row.failing t) (accepted images t)) plain
           ∙ ap (λ ps. cond (nat_lt 0 (length ps)) (fresh images row.failing t) None) unstale
 
+      -- nothing is written for it
       none_written : mending_writes images row.failing t ≡ []
       none_written = mending_is images row t
           ∙ ap (λ o. option_map_or (λ bytes. copy_writes t bytes (wrong_parts images row.failing t)) o []) none_given
 
+      -- it has no test
       unchecked : is_checked t ≡ false
       unchecked = ap not plain
 
+      -- so it isn't lost
       unlost : is_lost_block images t ≡ false
       unlost = ap (λ b. b && is_lost images t) unchecked
 
+      -- it isn't sure what it should have
       unsure : is_sure images layout row t ≡ false
       unsure = ap (λ o. is_some o || is_plain t.want && is_surer images layout row t) none_given
           ∙ ap (λ b. b && is_surer images layout row t) plain
@@ -124,19 +127,23 @@ module _ (layout : Layout) (table : IsTable layout.chunks) (row : Row) (lie : (t
   -- ---- the row
 
   module _ (images : Images) where
+    -- so no column is decided
     undecided : (column : ℕ) → is_decided images layout row column ≡ false
     undecided column = none_decided (meets column) (is_sure images layout row) row.blocks (λ t i. unsure t i images)
 
+    -- and nothing is written of a parity
     none_parity : (q : Part) → parity_writes images layout row q ≡ []
     none_parity q = ap (filter_map (sector_write images layout row q))
         (filter_none (λ column. is_decided images layout row column && differs images layout row q column) (range_with_len 0 16)
         (λ column i. ap (λ b. b && differs images layout row q column) (undecided column)))
 
+    -- nothing is written in it
     pub inert_writes : row_writes images layout row ≡ []
     inert_writes =
         ap (λ ws. ws ++ parities_writes images layout row) (flat_none (mending_writes images row.failing) row.blocks (λ t i. none_written t i images))
         ∙ flat_none (parity_writes images layout row) (parities row.chunk.profile) (λ q i. none_parity q)
 
+    -- nothing is counted for it
     pub inert_counts : (write : Bool) → mended_row images layout row write ≡ untouched
     inert_counts write =
         let blocks = sum_zero (λ t. cond (is_checked t) 1 0) row.blocks (λ t i. ap (λ b. cond b 1 0) (unchecked t i images)) in

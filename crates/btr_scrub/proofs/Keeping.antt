@@ -1,41 +1,28 @@
 -- Wherever the mending of a full stripe is cut short, its blocks can be had.
 use Rattle.std.proofs.Common.{◌≡◌, ◌⊎◌, ℕ, ◌+◌, ◌-◌, ◌*◌, ◌<◌, ◌≤◌, Bool, true, false, not, cond, ◌&&◌, List, [], ◌∷◌, length, get_or, slice_range, slice_get}
 use Rattle.std.proofs.Common.{All, Option, Some, None, IsSome, is_some, IsNone, IsSomeAnd, refl, sym, ap, ◌∙◌, subst, inl, inr, arith}
-use Rattle.std.proofs.lemmas.Bool.{false≢true, false_from_ne_true}
-use Rattle.std.proofs.lemmas.Option.{same_Some}
-use Rattle.std.specs.List.{Contains, cons_option, fold, list_any}
-use Rattle.std.specs.Option.{option_map, option_map_or}
-use Rattle.btr_chunk.specs.Chunk.{data_count, stripe_length}
-use Rattle.btr_chunk.specs.declared.chunk.Chunk.{Chunk}
-use Rattle.btr_chunk.specs.declared.place.Part.TheVariants.{Slice, P, Q}
-use Rattle.btr_rack.specs.Rack.{bytes_of, image_of, pasted, range_in}
+use Rattle.btr_scrub.proofs.Common.{Candidate, Chunk, Failing, HaveLengths, Images, IsInRow, IsOfElement, KeepsOutside, Layout, LiesInRow, P, Q, Read, Row}
+use Rattle.btr_scrub.proofs.Common.{Target, Want, Write, accepted, addr_of, bad_parts, block_writes, candidates, cons_option, copy_writes, data_count}
+use Rattle.btr_scrub.proofs.Common.{false_from_ne_true, false≢true, fresh_writes, image_of, is_good, is_in_row, is_plain, length-pasted, list_any}
+use Rattle.btr_scrub.proofs.Common.{mending_writes, option_map, option_map_or, parities, parity_writes, parts_read, passes, passing_filter, pasted, range_in}
+use Rattle.btr_scrub.proofs.Common.{range_in_element, range_of, same_Some, size_of, slice_count, stands, stripe_length, targets, value_of, write_on}
+use Rattle.std.specs.List.{Contains, fold}
+use Rattle.btr_chunk.specs.declared.place.Part.TheVariants.{Slice}
+use Rattle.btr_rack.specs.Rack.{bytes_of}
 use Rattle.btr_rack.specs.declared.place.Place.{Place as Range}
-use Rattle.btr_read.specs.Candidates.{Target, candidates, element, parts_read, range_of, size_of, slice_count, stands, value_of}
+use Rattle.btr_read.specs.Candidates.{element}
 use Rattle.btr_read.specs.Candidates as read
-use Rattle.btr_read.specs.Fate.{is_plain, passing}
-use Rattle.btr_read.specs.Layout.{Layout}
-use Rattle.btr_read.specs.Want.{addr_of, passes}
-use Rattle.btr_read.specs.declared.candidate.Candidate.{Candidate}
-use Rattle.btr_read.specs.declared.candidate.Candidate.TheVariants.{Read}
-use Rattle.btr_read.specs.declared.want.Want.{Want}
+use Rattle.btr_read.specs.Fate.{passing}
 use Rattle.btr_read.proofs.Trials.{fails_where_none}
 use Rattle.btr_read.proofs.Values.{value_by_ranges}
-use Rattle.btr_scrub_copies.specs.Blocks.{accepted, bad_parts, block_writes, copy_writes, is_good}
-use Rattle.btr_scrub_copies.specs.Fresh.{fresh_writes, Failing}
-use Rattle.btr_scrub_row.specs.Wanted.{mending_writes}
-use Rattle.btr_scrub_copies.specs.Writes.{AreAmong, Images, IsStopped, Write, ranges_of, write_on}
-use Rattle.btr_scrub_copies.proofs.Syncs.{passing_filter}
-use Rattle.btr_scrub_row.specs.Rows.{Row, parities, parities_writes, parity_writes, range_in_element, rebuilt_writes}
+use Rattle.btr_scrub_copies.specs.Writes.{AreAmong, IsStopped, ranges_of}
+use Rattle.btr_scrub_row.specs.Rows.{parities_writes, rebuilt_writes}
 use Rattle.btr_scrub_row.proofs.Settled.{bad_are, written_at}
 use Rattle.btr_scrub.proofs.OwnPlaces.{wrong_own, own_slice, over_byte}
-use Rattle.btr_scrub_row.proofs.Pasted.{at_range, length-pasted, pasted-within, range_pasted}
-use Rattle.btr_scrub.specs.Devices.{HaveLengths}
-use Rattle.btr_scrub.specs.BlocksInRows.{In, IsInRow, LiesInRow}
+use Rattle.btr_scrub_row.proofs.Pasted.{at_range, pasted-within, range_pasted}
+use Rattle.btr_scrub.specs.BlocksInRows.{In}
 use Rattle.btr_scrub.specs.Keeping.{FillsPlace, FirstTurnKeepsBlocks, HasWayBeside, IsHad, IsRowAmong, SecondTurnKeepsBlocks, Withstands}
-use Rattle.btr_scrub.specs.WrittenRanges.{KeepsOutside}
-use Rattle.btr_scrub.specs.Order.{targets}
-use Rattle.btr_scrub.specs.Places.{IsOfElement}
-use Rattle.btr_scrub.specs.Repair.{byte_at, covers, is_in_row}
+use Rattle.btr_scrub.specs.Repair.{byte_at, covers}
 use Rattle.btr_scrub.proofs.AcrossChunks.{OfRows, row_is}
 use Rattle.btr_scrub.proofs.Columns.{own_candidate, same_index}
 use Rattle.btr_scrub.proofs.CopyWrites.{element_is, is_there, long_element, same_element}
@@ -50,12 +37,15 @@ use Rattle.btr_scrub.proofs.Survival.{of_filter, range_same}
 use Rattle.btr_scrub.proofs.Pasting.{Short, shorts_keep, written_by, stays_brought}
 use Rattle.btr_scrub.proofs.Lists.{in_of, of_filter_map, some_of, any_map, any_is, is_any, first_in, of_flat, in_flat, in_map}
 use Rattle.btr_scrub.proofs.Doubting.{passes_plain}
+use Rattle.btr_scrub.proofs.RowNumbers.{IsWholeChunk}
 
 -- ---- images that differ in ranges
 
+-- what some ranges cover more ranges do
 covers_more : (slot off : ℕ) (rs qs : List Range) → AreAmong rs qs → list_any (covers slot off) rs ≡ true → list_any (covers slot off) qs ≡ true
 covers_more slot off rs qs among h = let a = any_is (covers slot off) rs h in is_any (covers slot off) a.0 qs (among a.0 a.1) a.2
 
+-- what no range covers fewer don't
 none_fewer : (slot off : ℕ) (rs qs : List Range) → AreAmong rs qs → list_any (covers slot off) qs ≡ false → list_any (covers slot off) rs ≡ false
 none_fewer slot off rs qs among none = false_from_ne_true (list_any (covers slot off) rs) (λ e.
     absurd (false≢true (sym none ∙ covers_more slot off rs qs among e)))
@@ -68,9 +58,11 @@ keeps_then rs qs a b c among one two = record {
   bytes = λ slot off none. two.bytes slot off (none_fewer slot off qs rs among none) ∙ one.bytes slot off none;
 }
 
+-- images keep their lengths
 lengths_after : (layout : Layout) (rs : List Range) (a b : Images) → KeepsOutside rs a b → HaveLengths a layout → HaveLengths b layout
 lengths_after layout rs a b keeps have devid device e = keeps.lengths device.slot ∙ have devid device e
 
+-- writes that fit fit images of the same lengths
 short_after : (images now : Images) (ws : List Write) → ((slot : ℕ) → length (image_of now slot) ≡ length (image_of images slot))
     → All (Short images) ws → All (Short now) ws
 short_after images now ws same all i d lt = let s = all i d lt in record { short = s.short; within = omega (arith, s.within, same (get_or ws i d).range.slot) }
@@ -86,73 +78,94 @@ had_by images t c i stand pass = by (passing images t) refl
     by [] e = absurd (false≢true (sym (fails_where_none images t c e i stand) ∙ pass))
     by (x ∷ xs) e = ap (λ ys. is_some (slice_get ys 0)) e
 
+-- bytes that are accepted for a block pass
 accepted_passes : (images : Images) (t : Target) (bytes : List ℕ) → accepted images t ≡ Some bytes → passes t.setting t.want bytes ≡ true
 accepted_passes images t bytes e = (passing_filter (passes t.setting t.want) bytes (read.readings images t) (first_in (passing images t) bytes e)).1
 
+-- a byte at one place of an element has one address, from whichever block it is counted
 same_address : (one other base base' rest rest' off from from' : ℕ) → one ≡ base + rest → other ≡ base' + rest' → base ≡ base' → from ≡ from' → from
-    + rest ≤ off → from' + rest' ≤ off
-    → one + (off - (from + rest)) ≡ other + (off - (from' + rest'))
+    + rest ≤ off → from' + rest' ≤ off → one + (off - (from + rest)) ≡ other + (off - (from' + rest'))
 same_address one other base base' rest rest' off from from' a b same begin le le' = omega (arith, a, b, same, begin, le, le')
 
 -- ---- a full stripe
 
 module _ (images : Images) (layout : Layout) (wants : List Want) (row : Row) (here : IsRowAmong images layout wants row) where
+  -- the blocks and plain sectors of the wants that have a position
   abbrev ts : List Target
   ts = targets layout wants
 
+  -- the full stripe lies within its chunk's stripes
   inside : row.number * 65536 + 65536 ≤ stripe_length row.chunk
   inside = omega (arith, here.is_row.position.inside)
 
+  -- the images that fail, as the row has it
   abbrev kept : Failing
   kept = row.failing
 
-  of : OfRows kept layout here.table here.own_slots here.given here.is_row.number row.chunk here.is_row.there wants row
-  of = subst (λ bs. OfRows kept layout here.table here.own_slots here.given here.is_row.number row.chunk here.is_row.there wants
-      (record { chunk = row.chunk; number = row.number; blocks = bs; failing = row.failing })) (sym here.is_row.made)
-      (row_is kept layout here.table here.own_slots here.given here.is_row.number row.chunk here.is_row.there wants row.number here.is_row.parity inside)
+  -- its chunk has parity, and no device is missing
+  whole : IsWholeChunk layout here.is_row.number row.chunk
+  whole = record { of = record { table = here.table; there = here.is_row.there; parity = here.is_row.parity }; own = here.own_slots; given = here.given }
 
+  -- it is a full stripe of that chunk, and its blocks lie in it
+  of : OfRows layout here.is_row.number row
+  of = subst (λ bs. OfRows layout here.is_row.number (record { chunk = row.chunk; number = row.number; blocks = bs; failing = row.failing }))
+      (sym here.is_row.made) (row_is whole kept wants row.number inside)
+
+  -- a block of the row is one of the wants'
   among : (t : Target) → In t row.blocks → In t ts
   among t i = of_filter (is_in_row row.chunk row.number) t ts (subst (In t) here.is_row.made i)
 
+  -- the writes for its blocks fit
   rebuilt_short : All (Short images) (rebuilt_writes images layout row)
   rebuilt_short = left_short images (rebuilt_writes images layout row) (parities_writes images layout row)
       (row_short layout row here.table of.is images here.lengths of.blocks)
 
+  -- and so do those for its parities
   parities_short : All (Short images) (parities_writes images layout row)
   parities_short = right_short images (rebuilt_writes images layout row) (parities_writes images layout row)
       (row_short layout row here.table of.is images here.lengths of.blocks)
 
+  -- the images when the row's blocks are written
   abbrev after : Images
   after = fold write_on images (rebuilt_writes images layout row)
 
+  -- the writes for its blocks change nothing outside their ranges
   rebuilt_keeps : KeepsOutside (ranges_of (rebuilt_writes images layout row)) images after
   rebuilt_keeps = shorts_keep images (rebuilt_writes images layout row) rebuilt_short
 
   -- ---- one block, and where it lies
 
   module _ (t : Target) (i : In t row.blocks) where
+    -- the block is one of the row
     block : IsBlockOf layout row t
     block = of.blocks t i
 
+    -- its position is one of a full stripe
     in_row : IsInRow t
     in_row = block_in_row layout row here.table of.is t block
 
+    -- it lies in this full stripe
     lies : LiesInRow layout row t
     lies = block_lies layout row here.table of.is t block
 
+    -- the block's own slice stands in its element
     own : HasRanges images layout row t (Slice t.at.index)
     own = has_ranges images layout row t (Slice t.at.index) in_row lies (subst IsNone (sym in_row.parity) refl, in_row.position.index)
         (of.is.stand (Slice t.at.index) (has_own layout row here.table of.is t block))
 
+    -- its own place
     abbrev place : Range
     place = range_in own.slot (own.off + t.at.rest) (size_of t)
 
+    -- that is the range of its slice
     place_is : range_of t (Slice t.at.index) ≡ Some place
     place_is = own.block
 
+    -- so it stands
     own_stands : IsSome (range_of t (Slice t.at.index))
     own_stands = ap is_some own.block
 
+    -- its place lies in the image
     place_within : own.off + t.at.rest + size_of t ≤ length (image_of images own.slot)
     place_within =
         let there = is_there images layout t (Slice t.at.index) place here.lengths block.is own.block in
@@ -174,13 +187,14 @@ module _ (images : Images) (layout : Layout) (wants : List Want) (row : Row) (he
 
     -- what is written for a checked block
     module _ (checked : is_plain t.want ≡ false) where
+      -- bytes for its own slice are written at its place
       one : (bytes : List ℕ) (b : Bool) → copy_writes t bytes (cond b (Slice t.at.index ∷ []) []) ≡ cond b (written_at place bytes ∷ []) []
       one bytes true = ap (λ o. cons_option (option_map (λ r. written_at r bytes) o) []) own.block
       one bytes false = refl
 
+      -- it is written at its place where it doesn't pass there, and there are bytes for it
       writes_are : mending_writes images row.failing t ≡ option_map_or
-          (λ bytes. cond (not (is_good images t (Slice t.at.index))) (written_at place bytes ∷ []) [])
-          (accepted images t) []
+          (λ bytes. cond (not (is_good images t (Slice t.at.index))) (written_at place bytes ∷ []) []) (accepted images t) []
       writes_are = ap (λ b. cond b (fresh_writes images row.failing t) (block_writes images t)) checked ∙ by (accepted images t)
         where
           by : (o : Option (List ℕ)) → option_map_or (λ bytes. copy_writes t bytes (bad_parts images t)) o []
@@ -197,9 +211,11 @@ module _ (images : Images) (layout : Layout) (wants : List Want) (row : Row) (he
           by None = refl
           by (Some bytes) = refl
 
+  -- the address at which an element of the row begins
   abbrev base : ℕ → ℕ
   base index = row.chunk.start + (data_count row.chunk.profile (length row.chunk.stripes) * row.number + index) * 65536
 
+  -- where a block of the row has its address
   address : (t : Target) (i : In t row.blocks) → addr_of t.want ≡ base t.at.index + t.at.rest
   address t i =
       let b = of.blocks t i in
@@ -245,9 +261,11 @@ module _ (images : Images) (layout : Layout) (wants : List Want) (row : Row) (he
     from : ((mending_writes images row.failing t ≡ []) × (bytes ≡ element images t (Slice t.at.index)))
         ⊎ (mending_writes images row.failing t ≡ written_at (place t i) bytes ∷ [])
 
+  -- a checked block that can be had stands there so
   final : (t : Target) (i : In t row.blocks) → is_plain t.want ≡ false → IsHad images t → FillsPlace images t → Final t i
   final t i checked had fills = by (is_good images t (Slice t.at.index)) refl
     where
+      -- some bytes are accepted for it
       some : (bytes : List ℕ) × (accepted images t ≡ Some bytes)
       some = some_of (accepted images t) had
 
@@ -272,12 +290,15 @@ module _ (images : Images) (layout : Layout) (wants : List Want) (row : Row) (he
     holds : (k : ℕ) → k < size_of t → byte_at after (own t i).slot ((own t i).off + t.at.rest + k) ≡ get_or f.bytes k 0
     holds k lt = by f.from
       where
+        -- the image that it lies on
         slot : ℕ
         slot = (own t i).slot
 
+        -- where it begins there
         off : ℕ
         off = (own t i).off + t.at.rest
 
+        -- the byte lies in its place
         there : covers slot (off + k) (place t i) ≡ true
         there = covered slot off (size_of t) (off + k) (omega arith) (omega (arith, lt))
 
@@ -291,6 +312,7 @@ module _ (images : Images) (layout : Layout) (wants : List Want) (row : Row) (he
             let same = shared t u.0 i u.1 slot (off + k) there (written_there u.0 u.1 slot (off + k) on) in
             sole (subst (In v) one (subst (λ u. In v (mending_writes images row.failing u)) (sym same) u.2))
           where
+            -- a list of one write has no other
             sole : In v (written_at (place t i) f.bytes ∷ []) → v ≡ written_at (place t i) f.bytes
             sole (inl e) = sym e
             sole (inr h) = absurd h
@@ -308,6 +330,7 @@ module _ (images : Images) (layout : Layout) (wants : List Want) (row : Row) (he
             stays_brought slot (off + k) w f.long there images (rebuilt_writes images layout row) rebuilt_short (only one) (inr mine)
             ∙ ap (λ j. get_or f.bytes j 0) (omega arith)
 
+    -- so they are its element behind all
     element_after : element after t (Slice t.at.index) ≡ f.bytes
     element_after =
         let slot = (own t i).slot in
@@ -331,10 +354,12 @@ module _ (images : Images) (layout : Layout) (wants : List Want) (row : Row) (he
       ap (passes t.setting t.want) (same_element images stored layout (ranges_of (rebuilt_writes images layout row)) t (Slice t.at.index) here.lengths
       (block t i).is keeps free) ∙ good
     where
+      -- no write for the row's blocks covers a byte of it
       none_there : (slot off : ℕ) → covers slot off (place t i) ≡ true → list_any (covers slot off) (ranges_of (rebuilt_writes images layout row)) ≡ true → ⊥
       none_there slot off c h = false≢true (subst (λ ws. list_any (covers slot off) (ranges_of ws) ≡ true) (good_unwritten t i checked good)
           (written_for t i slot off c h))
 
+      -- so its place is free of them
       free : (slot off : ℕ) → IsSomeAnd (range_of t (Slice t.at.index)) (λ range. covers slot off range ≡ true)
           → list_any (covers slot off) (ranges_of (rebuilt_writes images layout row)) ≡ false
       free slot off c = false_from_ne_true (list_any (covers slot off) (ranges_of (rebuilt_writes images layout row))) (λ e.
@@ -345,6 +370,7 @@ module _ (images : Images) (layout : Layout) (wants : List Want) (row : Row) (he
       → KeepsOutside (ranges_of (rebuilt_writes images layout row)) images stored → value_of stored t h.way ≡ value_of images t h.way
   way_stays stored t i h keeps = value_by_ranges stored images t h.way bytes
     where
+      -- each range that the way reads has the bytes that it had
       bytes : (range : Range) → Contains (read.ranges_of t h.way) range → bytes_of stored range.slot range.off range.len
           ≡ bytes_of images range.slot range.off range.len
       bytes range c =
@@ -354,6 +380,7 @@ module _ (images : Images) (layout : Layout) (wants : List Want) (row : Row) (he
           (λ slot off d. h.beside range slot off c (subst (λ o. IsSomeAnd o (λ range. covers slot off range ≡ true)) from.2 d))
           ∙ element_is images t from.0 range from.2
 
+  -- wherever the first turn is stopped, each block that withstands it can be had
   first_keeps : (left stored : Images) (waits : List Range) (t : Target) → IsStopped (rebuilt_writes images layout row) images left
       → AreAmong waits (ranges_of (rebuilt_writes images layout row)) → KeepsOutside waits left stored
       → In t row.blocks → Withstands images layout row t → IsHad stored t
@@ -366,6 +393,7 @@ module _ (images : Images) (layout : Layout) (wants : List Want) (row : Row) (he
       by all (inl good) = had_by stored t (Read (Slice t.at.index)) (own_candidate t (in_row t i).parity) (ap (λ b. b && true) (own_stands t i))
           (still (is_plain t.want) refl)
         where
+          -- it passes at its own place, be it plain or checked
           still : (b : Bool) → is_plain t.want ≡ b → is_good stored t (Slice t.at.index) ≡ true
           still true plain = passes_plain t.setting t.want (element stored t (Slice t.at.index)) plain
           still false checked = good_stays stored t i checked all good
@@ -386,6 +414,7 @@ module _ (images : Images) (layout : Layout) (wants : List Want) (row : Row) (he
         | inr p ↦ let no : Slice t.at.index ≡ Q = e.2 ∙ p in cc
       ]
 
+  -- wherever the second turn is stopped, a checked block passes at its place
   checked_keeps : (left stored : Images) (waits : List Range) (t : Target) → IsStopped (parities_writes images layout row) after left
       → AreAmong waits (ranges_of (parities_writes images layout row)) → KeepsOutside waits left stored
       → (i : In t row.blocks) → is_plain t.want ≡ false → IsHad images t → FillsPlace images t → is_good stored t (Slice t.at.index) ≡ true
@@ -400,11 +429,13 @@ module _ (images : Images) (layout : Layout) (wants : List Want) (row : Row) (he
       ∙ element_after t i f)
       ∙ f.pass
     where
+      -- no write for a parity covers its place
       free : (slot off : ℕ) → IsSomeAnd (range_of t (Slice t.at.index)) (λ range. covers slot off range ≡ true)
           → list_any (covers slot off) (ranges_of (parities_writes images layout row)) ≡ false
       free slot off c = false_from_ne_true (list_any (covers slot off) (ranges_of (parities_writes images layout row))) (λ e.
           absurd (apart_from_parities t i slot off (subst (λ o. IsSomeAnd o (λ range. covers slot off range ≡ true)) (place_is t i) c) e))
 
+  -- so each block can be had that could be
   second_keeps : (left stored : Images) (waits : List Range) (t : Target) → IsStopped (parities_writes images layout row) after left
       → AreAmong waits (ranges_of (parities_writes images layout row)) → KeepsOutside waits left stored
       → In t row.blocks → IsHad images t → FillsPlace images t → is_good stored t (Slice t.at.index) ≡ true
@@ -414,10 +445,12 @@ module _ (images : Images) (layout : Layout) (wants : List Want) (row : Row) (he
       by true plain = passes_plain t.setting t.want (element stored t (Slice t.at.index)) plain
       by false checked = checked_keeps left stored waits t stopped among keeps i checked had fills
 
+-- while the blocks of a row are written, each that withstands it can be had, whatever stands in the ranges that wait for a sync
 pub first_turn_keeps_blocks : FirstTurnKeepsBlocks
 first_turn_keeps_blocks images left stored layout wants row waits t here stopped among keeps i w = first_keeps images layout wants row here left
     stored waits t stopped among keeps i w
 
+-- while its parities are written behind them, each that could be had and fills its place passes there, whatever waits for a sync
 pub second_turn_keeps_blocks : SecondTurnKeepsBlocks
 second_turn_keeps_blocks images left stored layout wants row waits t here stopped among keeps i had fills = second_keeps images layout wants row here
     left stored waits t stopped among keeps i had fills

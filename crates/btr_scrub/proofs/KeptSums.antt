@@ -1,29 +1,14 @@
 -- Sectors whose checksums are kept are listed at once.
 use Rattle.std.proofs.Common.{◌≡◌, ℕ, zero, suc, ◌+◌, ◌-◌, ◌*◌, ◌/◌, ◌<◌, Bool, true, false, cond, List, [], ◌∷◌, ◌++◌, drop, length, Option, Some}
-use Rattle.std.proofs.lemmas.Bool.{cases_lt}
+use Rattle.btr_scrub.proofs.Common.{AddsTo, Follows, Gathered, Gathers, IsList, Lists, OnlyReads, Return, SameVolume, Scene, Sector, Seen, Serves, Sum}
+use Rattle.btr_scrub.proofs.Common.{SumKind, Super, Tells, TreeRoot, Volume, cases_lt, drawn, exec, kind_in, no_part, scene, sector, sector_met, sectors}
+use Rattle.btr_scrub.proofs.Common.{stored_sum, sum_at, sum_size, unread_by}
 use Rattle.std.proofs.Common.{None, Result, Ok, Err, sym, ap, ◌∙◌, subst, arith, inl, inr}
-use Rattle.btr_base.specs.Sum.{stored_sum, sum_size}
-use Rattle.btr_base.specs.declared.kind.SumKind.{SumKind}
-use Rattle.btr_base.specs.declared.stored.Sum.{Sum}
-use Rattle.btr_prog.specs.Answers.{Follows, no_part}
-use Rattle.btr_prog.specs.Prog.{Return, exec}
-use Rattle.btr_rack.specs.Rack.{OnlyReads, Seen}
-use Rattle.btr_read.specs.Serves.{Serves}
-use Rattle.btr_read.specs.declared.want.Want.TheVariants.{Sector}
-use Rattle.btr_super.specs.declared.superblock.Super.{Super}
-use Rattle.btr_walk.specs.Reading.{Tells, unread_by}
-use Rattle.btr_walk.proofs.Joined.{drawn}
-use Rattle.btr_volume.specs.Looking.{SameVolume}
-use Rattle.btr_volume.specs.declared.root.TreeRoot.{TreeRoot}
 use Rattle.btr_volume.specs.declared.stop.Stop.{Stop as TheStop}
-use Rattle.btr_volume.specs.declared.volume.Volume.{Volume}
 use Rattle.btr_files.specs.Aheads.{IsSummed, kept_sum}
-use Rattle.btr_files.specs.Sums.{covers, kind_in, sum_at}
+use Rattle.btr_files.specs.Sums.{covers}
 use Rattle.btr_files.specs.declared.sums_ahead.SumsAhead.{SumsAhead}
-use Rattle.btr_scrub.specs.Gathering.{Gathers, GathersSome, IsKept, Lists, ListsKept, Scene, scene, sectors_met}
-use Rattle.btr_scrub.specs.Listed.{AddsTo, IsList}
-use Rattle.btr_scrub.specs.Units.{sector, sector_met, sectors}
-use Rattle.btr_scrub.specs.declared.gathered.Gathered.{Gathered}
+use Rattle.btr_scrub.specs.Gathering.{GathersSome, IsSumKept, ListsKept, sectors_met}
 use Rattle.btr_scrub.proofs.Gaps.{follows_sectors}
 use Rattle.btr_scrub.proofs.Gathering.{gathers_then, lists_added, lists_none, lists_then}
 use Rattle.btr_scrub.proofs.OneSector.{again}
@@ -32,6 +17,7 @@ use Rattle.btr_scrub.proofs.OneSector.{again}
 kept_again : (ahead : SumsAhead) (addr : ℕ) (sum : Sum) → length sum.bytes ≡ 32 → kept_sum ahead addr ≡ Some sum → stored_sum ahead.kind sum.bytes ≡ sum
 kept_again ahead addr sum long kept = of (covers ahead.run addr) kept
   where
+    -- the bytes from the address's checksum on
     bytes : List ℕ
     bytes = drop ((addr - ahead.run.start) / 4096 * sum_size ahead.kind) ahead.bytes
 
@@ -39,6 +25,7 @@ kept_again ahead addr sum long kept = of (covers ahead.run addr) kept
     of true e = again ahead.kind bytes sum long (let is : stored_sum ahead.kind bytes ≡ sum = cc e in sym is)
     of false e = absurd (cc e)
 
+-- one sector more is met behind the others
 sectors_more : (found : ℕ → Option Sum) (n addr : ℕ)
     → sectors_met found (n + 1) addr ≡ sectors_met found n addr ++ sector_met (addr + n * 4096) (found (addr + n * 4096)) ∷ []
 sectors_more found zero addr =
@@ -56,8 +43,7 @@ kept_none addr most ahead x is = record { few = omega arith; kept = λ i lt. abs
 -- one more was
 pub kept_more : (addr most : ℕ) (ahead : SumsAhead) (x y z : Gathered) (n : ℕ) (sum : Sum) → n < most → ListsKept addr most ahead x y n
     → ahead.kind ≡ x.list.kind → kept_sum ahead (addr + n * 4096) ≡ Some sum → length sum.bytes ≡ 32
-    → AddsTo y.list z.list (Sector (addr + n * 4096) (stored_sum x.list.kind sum.bytes)) → z.unchecked ≡ y.unchecked
-    → ListsKept addr most ahead x z (n + 1)
+    → AddsTo y.list z.list (Sector (addr + n * 4096) (stored_sum x.list.kind sum.bytes)) → z.unchecked ≡ y.unchecked → ListsKept addr most ahead x z (n + 1)
 kept_more addr most ahead x y z n sum lt h kind kept long added count =
     let at = addr + n * 4096 in
     let same : stored_sum x.list.kind sum.bytes ≡ sum = subst (λ (k : SumKind). stored_sum k sum.bytes ≡ sum) kind (kept_again ahead at sum long kept) in
@@ -68,7 +54,7 @@ kept_more addr most ahead x y z n sum lt h kind kept long added count =
       few = omega (arith, lt);
       kept = λ i below. elim (cases_lt i n) [
         | inl before ↦ h.kept i before
-        | inr behind ↦ subst (λ j. IsKept x.list.kind ahead (addr + j * 4096)) (let last : n ≡ i = omega (arith, below, behind) in last)
+        | inr behind ↦ subst (λ j. IsSumKept x.list.kind ahead (addr + j * 4096)) (let last : n ≡ i = omega (arith, below, behind) in last)
             (record { sum = sum; of_kind = kind; kept = kept })
       ];
       lists = subst (Lists x z) (sym (sectors_more (kept_sum ahead) n addr))

@@ -1,25 +1,16 @@
 -- What came of the blocks that are kept is what comes of all.
 use Rattle.std.proofs.Common.{◌≡◌, ℕ, ◌+◌, Bool, List, [], Some, IfSome, Result, Err, refl, sym, ap, ◌∙◌}
 use Rattle.std.specs.Prelude.{count_by, fold}
-use Rattle.btr_chunk.specs.Table.{IsTable}
-use Rattle.btr_prog.specs.Answers.{Broke, Follows, no_part}
-use Rattle.btr_prog.specs.Prog.{exec}
+use Rattle.btr_scrub.proofs.Common.{Follows, Images, IsTable, Layout, Met, OnlyReads, Seen, Super, Tally, Want, begun, count_met, exec, first_tally}
+use Rattle.btr_scrub.proofs.Common.{listed_count_for, listed_writes_for, no_part, stood, units_in, unread_by}
+use Rattle.btr_prog.specs.Answers.{Broke}
 use Rattle.btr_prog.proofs.Follow.{broke_here}
-use Rattle.btr_rack.specs.Rack.{OnlyReads, Seen}
 use Rattle.btr_rack.proofs.Reading.{reads_none}
-use Rattle.btr_read.specs.Layout.{Layout}
-use Rattle.btr_read.specs.declared.want.Want.{Want}
-use Rattle.btr_super.specs.declared.superblock.Super.{Super}
-use Rattle.btr_walk.specs.Reading.{unread_by}
 use Rattle.btr_volume.specs.declared.stop.Stop.{Stop}
 use Rattle.btr_volume.specs.declared.stop.Stop.TheVariants as stop
-use Rattle.btr_scrub_copies.specs.Writes.{Images}
-use Rattle.btr_scrub.specs.Repair.{is_unchecked, stood}
-use Rattle.btr_scrub.specs.Gathering.{count_met}
-use Rattle.btr_scrub.specs.Sifting.{SiftsUnits, begun, kept_of, left_out}
-use Rattle.btr_scrub.specs.Units.{Met, units_in}
-use Rattle.btr_scrub.specs.Whole.{Failed, ScrubsAll, Stopped, WorksFrom, first_tally, listed_count_for, listed_writes_for}
-use Rattle.btr_scrub.specs.declared.tally.Tally.{Tally}
+use Rattle.btr_scrub.specs.Repair.{is_unchecked}
+use Rattle.btr_scrub.specs.Sifting.{SiftsUnits, kept_of, left_out}
+use Rattle.btr_scrub.specs.Whole.{Failed, ScrubsAll, Stopped, WorksFrom}
 use Rattle.btr_scrub.proofs.Scrubbing.{told}
 use Rattle.btr_scrub.proofs.Sieved.{tells_all}
 use Rattle.btr_scrub.proofs.Sifting.{kept_counts, kept_writes}
@@ -29,11 +20,13 @@ use Rattle.btr_scrub.proofs.Working.{works_as}
 module _ (layout : Layout) (write : Bool) (kept wants : List Want) (sound unchecked : ℕ) (b z : Seen) (table : IsTable layout.chunks)
     (needed : IfSome b.held (λ images. kept ≡ kept_of images layout wants)) (many : IfSome b.held (λ images. sound ≡ stood (left_out images layout wants)))
     (bare : ℕ) (bares : unchecked ≡ stood bare) where
+  -- where the images are told, the writes for the blocks that are kept are those for all
   same_writes : (images : Images) → b.held ≡ Some images → listed_writes_for layout kept images ≡ listed_writes_for layout wants images
   same_writes images e =
       ap (λ ks. listed_writes_for layout ks images) (told b.held (λ images. kept ≡ kept_of images layout wants) images e needed)
       ∙ kept_writes images layout wants table
 
+  -- the counts of those that are kept, begun with the others, are those of all
   same_counts : (images : Images) → b.held ≡ Some images → listed_count_for layout write kept images (begun sound unchecked)
       ≡ listed_count_for layout write wants images (first_tally unchecked)
   same_counts images e =
@@ -44,6 +37,7 @@ module _ (layout : Layout) (write : Bool) (kept wants : List Want) (sound unchec
       ∙ kept_counts images layout write wants bare table
       ∙ ap (λ n. listed_count_for layout write wants images (first_tally n)) (sym bares)
 
+  -- what came of the blocks that are kept, begun with the counts of the others, came of all
   pub works_kept : (r : Result Tally Stop) → WorksFrom layout write kept (begun sound unchecked) b z r
       → WorksFrom layout write wants (first_tally unchecked) b z r
   works_kept r h =
@@ -64,6 +58,7 @@ counts_stand done = unchecked_among done 0
 -- ---- stops
 
 module _ (s : Super) (layout : Layout) (write : Bool) (a b : Seen) where
+  -- where the blocks couldn't be listed and sifted, scrub ends with the same stop
   pub scrubs_stopped : (why : Stop) → OnlyReads a b → SiftsUnits (units_in s layout.chunks) layout a b (Err why) → ScrubsAll s layout write a b (Err why)
   scrubs_stopped (stop.NoTree id) reads k = record { mid = b; reads = reads; done = k.0; listing = Stopped (stop.NoTree id); goes = (refl, refl, k.1, k.2) }
   scrubs_stopped (stop.Tree f) reads k = record { mid = b; reads = reads; done = k.0; listing = Stopped (stop.Tree f); goes = (refl, refl, k.1, k.2) }

@@ -1,4 +1,6 @@
+mod Common
 pub mod SomeCandidate
+pub mod Grouping
 pub mod Elements
 pub mod Stripes
 pub mod Pasting

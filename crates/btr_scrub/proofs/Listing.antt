@@ -2,25 +2,26 @@
 use Rattle.std.proofs.Common.{◌≡◌, ℕ, zero, suc, ◌+◌, ◌-◌, ◌*◌, ◌^◌, ◌<◌, ◌≤◌, List, [], ◌∷◌, ◌++◌, length, take, drop, Option, Some, None, Result, Ok, Err}
 use Rattle.std.proofs.Common.{OnOk, IsSomeAnd, refl, sym, ap, ◌∙◌, subst, arith, append_assoc, append-nil, length-append}
 use Rattle.std.proofs.Math.Nat.{suc-mul}
-use Rattle.std.proofs.lemmas.List.{drop-append-le, length-drop, length-take-le, nil_from_length, take-append-drop, take-append-le, take-take}
-use Rattle.btr_base.specs.Sum.{sum_from, sum_size, stored_sum}
-use Rattle.btr_base.specs.declared.kind.SumKind.{SumKind}
+use Rattle.btr_scrub.proofs.Common.{AddsAll, AddsTo, IsList, KeptBlocks, Plain, Sector, SumKind, kept_wants, length-drop, plains_from, stored_sum, sum_size}
+use Rattle.std.proofs.lemmas.List.{drop-append-le, length-take-le, nil_from_length, take-append-drop, take-append-le, take-take}
+use Rattle.btr_base.specs.Sum.{sum_from}
 use Rattle.std.specs.Option.{option_to_list}
 use Rattle.btr_base.specs.declared.kind.SumKind.TheVariants.{Crc32c, Sha256, Xxh64}
-use Rattle.btr_read.specs.declared.want.Want.TheVariants.{Plain, Tree, Sector}
+use Rattle.btr_read.specs.declared.want.Want.TheVariants.{Tree}
 use Rattle.btr_scrub.specs.declared.run.Run.{Run}
 use Rattle.btr_scrub.specs.declared.run.RunKind.{RunKind}
 use Rattle.btr_scrub.specs.declared.run.RunKind.TheVariants.{TreeBlock, Sectors, Unsummed}
 use Rattle.btr_scrub.specs.declared.run.TreeMark.{TreeMark}
-use Rattle.btr_scrub.specs.Listed.{AddsAll, AddsTo, AreRuns, Begins, Extends, FewBytes, IsList, IsRun, Kept, Lengthens, all_plains, all_sectors}
-use Rattle.btr_scrub.specs.Listed.{all_trees, kept_wants}
-use Rattle.btr_scrub.specs.Listed.{plains_from, plains_of, run_wants, sectors_from, sectors_of, tree_from, trees_of, wants_of}
+use Rattle.btr_scrub.specs.Listed.{AreRuns, Begins, Extends, FewBytes, IsRun, Lengthens, all_plains, all_sectors}
+use Rattle.btr_scrub.specs.Listed.{all_trees}
+use Rattle.btr_scrub.specs.Listed.{plains_of, run_wants, sectors_from, sectors_of, tree_from, trees_of, wants_of}
 
 -- the counts of runs one behind another
 pub sectors_both : (runs more : List Run) → all_sectors (runs ++ more) ≡ all_sectors runs + all_sectors more
 sectors_both [] more = omega arith
 sectors_both (run ∷ runs) more = let h = sectors_both runs more in omega (arith, h)
 
+-- tree blocks of two lists of runs are those of both
 pub trees_both : (runs more : List Run) → all_trees (runs ++ more) ≡ all_trees runs + all_trees more
 trees_both [] more = omega arith
 trees_both (run ∷ runs) more = let h = trees_both runs more in omega (arith, h)
@@ -47,14 +48,17 @@ times_sum (suc a) b z =
     let three = times_sum a b z in
     ap (λ n. n * z) h ∙ omega (arith, one, two, three)
 
+-- the block of a mark is the same with other marks behind it
 tree_longer : (addr : ℕ) (ms ts : List TreeMark) → 1 ≤ length ms → tree_from addr (ms ++ ts) ≡ tree_from addr ms
 tree_longer addr [] ts h = absurd (omega (arith, h))
 tree_longer addr (m ∷ ms) ts h = refl
 
 module _ (kind : SumKind) where
+  -- how many bytes a checksum has
   z : ℕ
   z = sum_size kind
 
+  -- a checksum is the same with other bytes behind it
   stored_longer : (xs s : List ℕ) → sum_size kind ≤ length xs → stored_sum kind (xs ++ s) ≡ stored_sum kind xs
   stored_longer xs s h = ap (sum_from kind) (take-append-le (sum_size kind) xs s h)
 
@@ -90,6 +94,7 @@ module _ (kind : SumKind) where
       ∙ ap (λ ws. Sector addr (stored_sum kind xs) ∷ ws) (sectors_more n (addr + 4096) (drop size xs) s rest)
       ∙ ap (λ a. Sector addr (stored_sum kind xs) ∷ (sectors_from kind (addr + 4096) n (drop size xs) ++ Sector a (stored_sum kind s) ∷ [])) behind
 
+  -- the blocks of a run are the same with other checksums and marks behind its own
   run_longer : (addr : ℕ) (k : RunKind) (xs s : List ℕ) (ms ts : List TreeMark) → sectors_of k * sum_size kind ≤ length xs → trees_of k ≤ length ms
       → run_wants kind addr k (xs ++ s) (ms ++ ts) ≡ run_wants kind addr k xs ms
   run_longer addr TreeBlock xs s ms ts h g = tree_longer addr ms ts g
@@ -119,11 +124,12 @@ module _ (kind : SumKind) where
       ∙ ap (λ ws. run_wants kind run.addr run.kind xs ms ++ ws) (wants_both runs more (drop (n * size) xs) s (drop t ms) ts rest behind)
       ∙ sym (append_assoc (run_wants kind run.addr run.kind xs ms) (wants_of kind runs (drop (n * size) xs) (drop t ms)) (wants_of kind more s ts))
 
-abbrev pub made : SumKind → List Run → List ℕ → List TreeMark → Kept
+-- the list with these parts
+abbrev pub made : SumKind → List Run → List ℕ → List TreeMark → KeptBlocks
 made kind runs sums marks = record { kind = kind; runs = runs; sums = sums; marks = marks }
 
 -- lists with the same parts are the same
-pub same_kept : (new : Kept) (kind : SumKind) (runs : List Run) (sums : List ℕ) (marks : List TreeMark) → new.kind ≡ kind → new.runs ≡ runs → new.sums
+pub same_kept : (new : KeptBlocks) (kind : SumKind) (runs : List Run) (sums : List ℕ) (marks : List TreeMark) → new.kind ≡ kind → new.runs ≡ runs → new.sums
     ≡ sums → new.marks ≡ marks → new ≡ made kind runs sums marks
 same_kept new kind runs sums marks a b c d =
     ap (λ k. made k new.runs new.sums new.marks) a ∙ ap (λ r. made kind r new.sums new.marks) b ∙ ap (λ s. made kind runs s new.marks) c
@@ -134,22 +140,25 @@ pub runs_both : (runs more : List Run) → AreRuns runs → AreRuns more → Are
 runs_both [] more h g = g
 runs_both (run ∷ runs) more h g = (h.0, runs_both runs more h.1 g)
 
+-- the first of runs that keep their form keep it
 pub runs_before : (runs more : List Run) → AreRuns (runs ++ more) → AreRuns runs
 runs_before [] more h = tt
 runs_before (run ∷ runs) more h = (h.0, runs_before runs more h.1)
 
+-- a checksum has at most 32 bytes
 pub size_few : (kind : SumKind) → sum_size kind ≤ 32
 size_few Crc32c = omega arith
 size_few Sha256 = omega arith
 size_few Xxh64 = omega arith
 
+-- what holds where a call went well may be made less
 on_ok : {E : Type 0} {P Q : Type 0} (result : Result (Unit {0}) E) → (P → Q) → OnOk result P → OnOk result Q
 on_ok (Ok u) f h = f h
 on_ok (Err e) f h = tt
 
-module _ (old : Kept) (is : IsList old) where
+module _ (old : KeptBlocks) (is : IsList old) where
   -- a tree block behind the others
-  pub tree_added : (new : Kept) (addr generation level : ℕ) → new.kind ≡ old.kind → new.runs ≡ old.runs ++ record { addr = addr; kind = TreeBlock } ∷ []
+  pub tree_added : (new : KeptBlocks) (addr generation level : ℕ) → new.kind ≡ old.kind → new.runs ≡ old.runs ++ record { addr = addr; kind = TreeBlock } ∷ []
       → new.sums ≡ old.sums → new.marks ≡ old.marks ++ record { generation = generation; level = level } ∷ [] → AddsTo old new (Tree addr generation level)
   tree_added new addr generation level k r s m =
       let run : Run = record { addr = addr; kind = TreeBlock } in
@@ -171,7 +180,7 @@ module _ (old : Kept) (is : IsList old) where
       })
 
   -- a sector behind the others, which begins a run
-  pub sector_added : (new : Kept) (addr : ℕ) (bytes : List ℕ) → addr < 2 ^ 64 → sum_size old.kind ≤ length bytes → new.kind ≡ old.kind
+  pub sector_added : (new : KeptBlocks) (addr : ℕ) (bytes : List ℕ) → addr < 2 ^ 64 → sum_size old.kind ≤ length bytes → new.kind ≡ old.kind
       → new.runs ≡ old.runs ++ record { addr = addr; kind = Sectors 1 } ∷ [] → new.sums ≡ old.sums ++ take (sum_size old.kind) bytes → new.marks ≡ old.marks
       → AddsTo old new (Sector addr (stored_sum old.kind bytes))
   sector_added new addr bytes small many k r s m =
@@ -198,7 +207,7 @@ module _ (old : Kept) (is : IsList old) where
       })
 
   -- a sector behind the others, by which the last run is longer
-  pub sector_grown : (new : Kept) (before : List Run) (run longer : Run) (addr : ℕ) (bytes : List ℕ) → addr < 2 ^ 64
+  pub sector_grown : (new : KeptBlocks) (before : List Run) (run longer : Run) (addr : ℕ) (bytes : List ℕ) → addr < 2 ^ 64
       → sum_size old.kind ≤ length bytes → Lengthens run addr longer → old.runs ≡ before ++ run ∷ [] → new.kind ≡ old.kind → new.runs ≡ before
       ++ longer ∷ [] → new.sums ≡ old.sums ++ take (sum_size old.kind) bytes → new.marks ≡ old.marks → AddsTo old new (Sector addr (stored_sum old.kind bytes))
   sector_grown new before run longer addr bytes small many l b k r s m =
@@ -264,7 +273,7 @@ module _ (old : Kept) (is : IsList old) where
       })
 
   -- sectors without a checksum behind the others, which begin a run
-  pub plain_added : (new : Kept) (addr n : ℕ) → 1 ≤ n → addr + n * 4096 < 2 ^ 64 → new.kind ≡ old.kind
+  pub plain_added : (new : KeptBlocks) (addr n : ℕ) → 1 ≤ n → addr + n * 4096 < 2 ^ 64 → new.kind ≡ old.kind
       → new.runs ≡ old.runs ++ record { addr = addr; kind = Unsummed n } ∷ [] → new.sums ≡ old.sums → new.marks ≡ old.marks
       → AddsAll old new (plains_from addr n)
   plain_added new addr n some small k r s m =
@@ -288,7 +297,7 @@ module _ (old : Kept) (is : IsList old) where
       })
 
   -- some behind the others, by which the last run is longer
-  pub plain_grown : (new : Kept) (before : List Run) (run longer : Run) (addr more : ℕ) → 1 ≤ more → addr + more * 4096 < 2 ^ 64
+  pub plain_grown : (new : KeptBlocks) (before : List Run) (run longer : Run) (addr more : ℕ) → 1 ≤ more → addr + more * 4096 < 2 ^ 64
       → Extends run addr more longer → old.runs ≡ before ++ run ∷ [] → new.kind ≡ old.kind → new.runs ≡ before ++ longer ∷ []
       → new.sums ≡ old.sums → new.marks ≡ old.marks → AddsAll old new (plains_from addr more)
   plain_grown new before run longer addr more some small l b k r s m =
@@ -331,26 +340,29 @@ module _ (old : Kept) (is : IsList old) where
       })
 
 -- the calls that put blocks behind the others
-module _ {E : Type 0} (result : Result (Unit {0}) E) (old : Kept) (is : IsList old) where
-  pub tree_pushed : (mid inner : Kept) (marks : List TreeMark) (addr generation level : ℕ) → Begins old mid (record { addr = addr; kind = TreeBlock })
+module _ {E : Type 0} (result : Result (Unit {0}) E) (old : KeptBlocks) (is : IsList old) where
+  -- a tree block was put behind the list, if there was memory
+  pub tree_pushed : (mid inner : KeptBlocks) (marks : List TreeMark) (addr generation level : ℕ) → Begins old mid (record { addr = addr; kind = TreeBlock })
       → inner ≡ mid → OnOk result (marks ≡ inner.marks ++ record { generation = generation; level = level } ∷ [])
       → OnOk result (AddsTo old (made inner.kind inner.runs inner.sums marks) (Tree addr generation level))
   tree_pushed mid inner marks addr generation level b same h = on_ok result
       (λ m. tree_added old is (made inner.kind inner.runs inner.sums marks) addr generation level
-      (ap (λ (k : Kept). k.kind) same ∙ b.kind) (ap (λ (k : Kept). k.runs) same ∙ b.runs) (ap (λ (k : Kept). k.sums) same ∙ b.sums)
-      (m ∙ ap (λ q. q ++ record { generation = generation; level = level } ∷ []) (ap (λ (k : Kept). k.marks) same ∙ b.marks))) h
+      (ap (λ (k : KeptBlocks). k.kind) same ∙ b.kind) (ap (λ (k : KeptBlocks). k.runs) same ∙ b.runs) (ap (λ (k : KeptBlocks). k.sums) same ∙ b.sums)
+      (m ∙ ap (λ q. q ++ record { generation = generation; level = level } ∷ []) (ap (λ (k : KeptBlocks). k.marks) same ∙ b.marks))) h
 
-  pub sector_begun : (mid inner : Kept) (sums bytes : List ℕ) (addr : ℕ) → addr < 2 ^ 64 → length bytes ≡ 32
+  -- a sector was, which begins a run
+  pub sector_begun : (mid inner : KeptBlocks) (sums bytes : List ℕ) (addr : ℕ) → addr < 2 ^ 64 → length bytes ≡ 32
       → Begins old mid (record { addr = addr; kind = Sectors 1 }) → inner ≡ mid → OnOk result (sums ≡ inner.sums ++ take (sum_size inner.kind) bytes)
       → OnOk result (AddsTo old (made inner.kind inner.runs sums inner.marks) (Sector addr (stored_sum old.kind bytes)))
   sector_begun mid inner sums bytes addr small long b same h = on_ok result (λ s.
-      let kind : inner.kind ≡ old.kind = ap (λ (k : Kept). k.kind) same ∙ b.kind in
+      let kind : inner.kind ≡ old.kind = ap (λ (k : KeptBlocks). k.kind) same ∙ b.kind in
       let few = size_few old.kind in
       sector_added old is (made inner.kind inner.runs sums inner.marks) addr bytes small (omega (arith, few, long)) kind
-      (ap (λ (k : Kept). k.runs) same ∙ b.runs)
-      (s ∙ ap (λ q. q ++ take (sum_size inner.kind) bytes) (ap (λ (k : Kept). k.sums) same ∙ b.sums)
-      ∙ ap (λ q. old.sums ++ take (sum_size q) bytes) kind) (ap (λ (k : Kept). k.marks) same ∙ b.marks)) h
+      (ap (λ (k : KeptBlocks). k.runs) same ∙ b.runs)
+      (s ∙ ap (λ q. q ++ take (sum_size inner.kind) bytes) (ap (λ (k : KeptBlocks). k.sums) same ∙ b.sums)
+      ∙ ap (λ q. old.sums ++ take (sum_size q) bytes) kind) (ap (λ (k : KeptBlocks). k.marks) same ∙ b.marks)) h
 
+  -- a sector was, by which the last run is longer
   pub sector_lengthened : (kind : SumKind) (runs : List Run) (last : Option Run) (sums : List ℕ) (marks : List TreeMark) (longer : Run)
       (new bytes : List ℕ) (addr : ℕ) → addr < 2 ^ 64 → length bytes ≡ 32 → made kind (runs ++ option_to_list last) sums marks ≡ old
       → IsSomeAnd last (λ run. Lengthens run addr longer) → OnOk result (new ≡ sums ++ take (sum_size kind) bytes)
@@ -358,24 +370,25 @@ module _ {E : Type 0} (result : Result (Unit {0}) E) (old : Kept) (is : IsList o
   sector_lengthened kind runs None sums marks longer new bytes addr small long same l h = absurd l
   sector_lengthened kind runs (Some run) sums marks longer new bytes addr small long same l h = on_ok result (λ s.
       let few = size_few old.kind in
-      let k : kind ≡ old.kind = ap (λ (q : Kept). q.kind) same in
+      let k : kind ≡ old.kind = ap (λ (q : KeptBlocks). q.kind) same in
       sector_grown old is (made kind (runs ++ longer ∷ []) new marks) runs run longer addr bytes small (omega (arith, few, long)) l
-      (sym (ap (λ (q : Kept). q.runs) same)) k refl
-      (s ∙ ap (λ q. q ++ take (sum_size kind) bytes) (ap (λ (q : Kept). q.sums) same) ∙ ap (λ q. old.sums ++ take (sum_size q) bytes) k)
-      (ap (λ (q : Kept). q.marks) same)) h
+      (sym (ap (λ (q : KeptBlocks). q.runs) same)) k refl
+      (s ∙ ap (λ q. q ++ take (sum_size kind) bytes) (ap (λ (q : KeptBlocks). q.sums) same) ∙ ap (λ q. old.sums ++ take (sum_size q) bytes) k)
+      (ap (λ (q : KeptBlocks). q.marks) same)) h
 
-  pub plain_begun : (new : Kept) (addr n : ℕ) → 1 ≤ n → addr + n * 4096 < 2 ^ 64
+  -- sectors without a checksum were, which begin a run
+  pub plain_begun : (new : KeptBlocks) (addr n : ℕ) → 1 ≤ n → addr + n * 4096 < 2 ^ 64
       → OnOk result (Begins old new (record { addr = addr; kind = Unsummed n })) → OnOk result (AddsAll old new (plains_from addr n))
   plain_begun new addr n some small h = on_ok result (λ b. plain_added old is new addr n some small b.kind b.runs b.sums b.marks) h
 
 -- the last run has more sectors without a checksum
-pub plain_lengthened : (old : Kept) → IsList old → (kind : SumKind) (runs : List Run) (last : Option Run) (sums : List ℕ) (marks : List TreeMark)
+pub plain_lengthened : (old : KeptBlocks) → IsList old → (kind : SumKind) (runs : List Run) (last : Option Run) (sums : List ℕ) (marks : List TreeMark)
     (longer : Run) (addr n : ℕ) → 1 ≤ n → addr + n * 4096 < 2 ^ 64 → made kind (runs ++ option_to_list last) sums marks ≡ old
     → IsSomeAnd last (λ run. Extends run addr n longer) → AddsAll old (made kind (runs ++ longer ∷ []) sums marks) (plains_from addr n)
 plain_lengthened old is kind runs None sums marks longer addr n some small same l = absurd l
 plain_lengthened old is kind runs (Some run) sums marks longer addr n some small same l =
-    plain_grown old is (made kind (runs ++ longer ∷ []) sums marks) runs run longer addr n some small l (sym (ap (λ (q : Kept). q.runs) same))
-    (ap (λ (q : Kept). q.kind) same) refl (ap (λ (q : Kept). q.sums) same) (ap (λ (q : Kept). q.marks) same)
+    plain_grown old is (made kind (runs ++ longer ∷ []) sums marks) runs run longer addr n some small l (sym (ap (λ (q : KeptBlocks). q.runs) same))
+    (ap (λ (q : KeptBlocks). q.kind) same) refl (ap (λ (q : KeptBlocks). q.sums) same) (ap (λ (q : KeptBlocks). q.marks) same)
 
 -- each run has a sector, or is a tree block
 runs_few : (runs : List Run) → AreRuns runs → length runs ≤ all_sectors runs + all_plains runs + all_trees runs
@@ -387,11 +400,13 @@ runs_few (run ∷ runs) h = let one = by run.addr run.kind h.0 in let more = run
     by addr (Sectors n) h = omega (arith, h.0)
     by addr (Unsummed n) h = omega (arith, h.0)
 
+-- so many checksums have at most 32 bytes each
 sums_few : (kind : SumKind) (n len : ℕ) → len ≡ n * sum_size kind → len ≤ n * 32
 sums_few Crc32c n len h = omega (arith, h)
 sums_few Sha256 n len h = omega (arith, h)
 sums_few Xxh64 n len h = omega (arith, h)
 
+-- a list takes at most 48 bytes for each sector with a checksum, 16 for each without, and 32 for each tree block
 pub few_bytes : FewBytes
 few_bytes kept is =
     let runs = runs_few kept.runs is.runs_fit in

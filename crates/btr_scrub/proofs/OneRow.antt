@@ -1,40 +1,23 @@
 -- One full stripe of the table, as it was mended.
 use Rattle.std.proofs.Common.{◌≡◌, ℕ, ◌+◌, ◌*◌, Bool, List, [], length, slice_get, Option, Some, None, IsSomeAnd, Result, Ok, Err, refl, sym, ap, ◌∙◌, inl, inr}
 use Rattle.std.proofs.Common.{arith}
-use Rattle.btr_chunk.specs.Mapping.{elements_of, holds, place_at, stripe_of}
+use Rattle.btr_scrub.proofs.Common.{Blocks, CanMend, Chunk, Elements, HasRooms, Images, IsOfScrub, IsTable, Layout, LiesInChunk, LiesInStripe, MendFault}
+use Rattle.btr_scrub.proofs.Common.{MendedRow, Row, SameLoans, Scrubs, Seen, Serves, StripePlace, Tally, Target, Want, Write, addr_of, all_at, alone}
+use Rattle.btr_scrub.proofs.Common.{chunk_at, counted_row, device_in, facts, flagged, holds, len_of, mended_row, place_at, placed_part, plain}
+use Rattle.btr_scrub.proofs.Common.{range_in_element, row_writes, sought, sought_at, sought_in, stripe_of, writes_if}
+use Rattle.btr_chunk.specs.Mapping.{elements_of}
 use Rattle.btr_chunk.specs.declared.mapping.MapFault.{MapFault}
 use Rattle.btr_chunk.specs.declared.mapping.MapFault.TheVariants as map_fault
-use Rattle.btr_chunk.specs.Table.{IsTable, chunk_at}
-use Rattle.btr_chunk.specs.declared.chunk.Chunk.{Chunk}
-use Rattle.btr_chunk.specs.declared.place.StripePlace.{StripePlace}
-use Rattle.btr_chunk.specs.declared.position.Elements.{Elements}
-use Rattle.btr_chunk.proofs.Bytes.{placed_part}
-use Rattle.btr_chunk.proofs.Rule.{data_count-some, facts}
-use Rattle.btr_rack.specs.Rack.{Seen}
+use Rattle.btr_chunk.proofs.Rule.{data_count-some}
 use Rattle.btr_rack.specs.declared.place.Place.{Place as Range}
-use Rattle.btr_read.specs.Candidates.{Target}
 use Rattle.btr_read.specs.Cause.{LiesIn}
-use Rattle.btr_read.specs.Fate.{sought, sought_at, sought_in}
-use Rattle.btr_read.specs.Layout.{Layout, device_in}
-use Rattle.btr_read.specs.Serves.{Serves}
-use Rattle.btr_read.specs.Store.{Blocks, SameLoans}
-use Rattle.btr_read.specs.Want.{addr_of, len_of}
-use Rattle.btr_read.specs.declared.want.Want.{Want}
-use Rattle.btr_scrub_copies.specs.Fresh.{flagged}
-use Rattle.btr_scrub_copies.specs.Syncing.{IsSyncOr, plain}
-use Rattle.btr_scrub_copies.specs.Writes.{Images, Write, writes_if}
-use Rattle.btr_scrub_copies.specs.declared.mended.MendFault.{MendFault}
-use Rattle.btr_scrub_row.specs.Mending.{HasRoom, IsFullStripe, IsOfRow, IsOn, IsRow, IsRowOf, MendsRow, mended_row}
-use Rattle.btr_scrub_row.specs.Rows.{Row, range_in_element, row_writes}
+use Rattle.btr_scrub_copies.specs.Syncing.{IsSyncOr}
+use Rattle.btr_scrub_row.specs.Mending.{HasRoom, IsFullStripe, IsOfRow, IsOn, IsRow, IsRowOf, MendsRow}
 use Rattle.btr_scrub_row.specs.declared.buffer.RowBuffer.{RowBuffer}
-use Rattle.btr_scrub_row.specs.declared.mended.MendedRow.{MendedRow}
-use Rattle.btr_scrub.specs.WrittenRanges.{LiesInChunk, LiesInStripe, alone}
-use Rattle.btr_scrub.specs.Scrubbing.{CanMend, HasRooms, IsOfScrub, Scrubs, counted_row}
-use Rattle.btr_scrub.specs.declared.tally.Tally.{Tally}
 use Rattle.btr_scrub_copies.proofs.Turning.{strands_same}
 use Rattle.btr_scrub.proofs.Positions.{find_at, lies_alone}
 use Rattle.btr_scrub.proofs.Scrubbing.{does_fault, does_value, does_weaker, tell, told, waits_weaker, can_mend_then}
-use Rattle.btr_scrub.proofs.Lists.{all_from, all_in}
+use Rattle.btr_scrub.proofs.Lists.{all_from}
 use Rattle.btr_scrub.proofs.Places.{on_device, in_stripe_of}
 
 -- the number of its chunk
@@ -42,6 +25,7 @@ pub chunk_number : (layout : Layout) (start number : ℕ) (row : Row) → IsFull
     × (slice_get layout.chunks i ≡ Some row.chunk)
 chunk_number layout start number row is = let f = find_at (λ c. holds c start) layout.chunks row.chunk is.chunk in (f.0, f.1)
 
+-- a buffer with room for each full stripe has it for this one
 pub has_room : (layout : Layout) (buffer : RowBuffer) (start number : ℕ) (wants : List Want) (row : Row) → HasRooms layout buffer
     → IsRowOf layout start number wants row → HasRoom buffer (length row.chunk.stripes)
 has_room layout buffer start number wants row rooms is = let n = chunk_number layout start number row is.stripe in rooms n.0 row.chunk n.1 is.stripe.parity
@@ -57,7 +41,7 @@ flagged_row layout start number wants flags h =
       record {
         stripe = record { chunk = s.chunk; number_is = s.number_is; parity = s.parity; inside = s.inside; stand = s.stand };
         blocks = h.is.blocks;
-        lie = all_from (IsOn row) r.blocks (λ t i. let on = all_in (IsOn r) r.blocks t h.is.lie i in record { chunk = on.chunk; number = on.number });
+        lie = all_from (IsOn row) r.blocks (λ t i. let on = all_at (IsOn r) r.blocks t h.is.lie i in record { chunk = on.chunk; number = on.number });
       },
       refl,
     )
@@ -79,8 +63,7 @@ row_in_stripe layout start number row range table is of = lies_alone layout row.
         let sound = (table.sound n.0 row.chunk n.1).0 in
         let at0 : Elements = record { row = row.number; index = 0; rest = 0 } in
         let p = placed_part row.chunk of.part at0 sound of.has (record {
-          index = data_count-some row.chunk.profile (length row.chunk.stripes)
-              (facts row.chunk sound).count;
+          index = data_count-some row.chunk.profile (length row.chunk.stripes) (facts row.chunk sound).count;
           inside = omega (arith, is.inside, is.number_is);
         }) in
         let place = place_at row.chunk of.part at0 in
@@ -93,15 +76,17 @@ row_in_stripe layout start number row range table is of = lies_alone layout row.
 -- it was mended, and counted
 module _ (layout : Layout) (write : Bool) (row : Row) (m n : List Bool) (a b : Seen)
     (in_stripe : (range : Range) → IsOfRow layout row range → LiesInStripe (alone layout row.chunk) range) where
+  -- what is written for the row, where it may be written
   abbrev the_writes : Images → List Write
   the_writes images = writes_if write (row_writes images layout row)
 
+  -- a call of the row is one of scrub's own
   in_scrub : (range : Range) → IsSyncOr (IsOfRow layout row) range → IsOfScrub (alone layout row.chunk) range
   in_scrub range (inl sync) = inl sync
   in_scrub range (inr of) = inr (in_stripe range of)
 
-  pub scrubs_row : (tally tally' : Tally) (mended : MendedRow) → MendsRow layout row write m n a b (Ok mended) → tally'
-      ≡ counted_row tally mended
+  -- it was mended to its end
+  pub scrubs_row : (tally tally' : Tally) (mended : MendedRow) → MendsRow layout row write m n a b (Ok mended) → tally' ≡ counted_row tally mended
       → Scrubs {A = Unit {0}} (alone layout row.chunk) write (λ images. row_writes images layout row)
       (λ images tally. counted_row tally (mended_row images layout row write)) m n a b tally tally' (Ok (tt {0}))
   scrubs_row tally tally' mended h e = record {
@@ -111,11 +96,11 @@ module _ (layout : Layout) (write : Bool) (row : Row) (m n : List Bool) (a b : S
     marked = h.marked;
     stranded = h.stranded;
     counts = tell a.held (λ images. tally' ≡ counted_row tally (mended_row images layout row write))
-        (λ images held. e ∙ ap (counted_row tally)
-        (told a.held (λ images. mended ≡ mended_row images layout row write) images held h.counts));
+        (λ images held. e ∙ ap (counted_row tally) (told a.held (λ images. mended ≡ mended_row images layout row write) images held h.counts));
     unwritten = h.unwritten;
   }
 
+  -- or a call failed
   pub scrubs_row_not : (tally : Tally) (fault : MendFault) → MendsRow layout row write m n a b (Err fault)
       → Scrubs {A = Unit {0}} (alone layout row.chunk) write (λ images. row_writes images layout row)
       (λ images tally. counted_row tally (mended_row images layout row write)) m n a b tally tally (Err fault)
@@ -134,6 +119,7 @@ module _ (layout : Layout) (write : Bool) (row : Row) (m n : List Bool) (a b : S
 pub chunk_of : (layout : Layout) (w : Want) (t : Target) → sought layout w ≡ Ok t → chunk_at layout.chunks (addr_of w) ≡ Some t.chunk
 chunk_of layout w t e = by (chunk_at layout.chunks (addr_of w)) e
   where
+    -- what is sought in a chunk has that chunk
     at : (chunk : Chunk) (r : Result Elements MapFault) → sought_at layout w chunk r ≡ Ok t → chunk ≡ t.chunk
     at chunk (Err map_fault.Unmapped) e = cc
     at chunk (Err map_fault.Crosses) e = cc

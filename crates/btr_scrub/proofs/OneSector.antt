@@ -3,40 +3,23 @@ use Rattle.std.proofs.Common.{◌≡◌, ℕ, suc, ◌+◌, ◌<◌, ◌≤◌, 
 use Rattle.std.proofs.Common.{length-take, refl, sym, ap, ◌∙◌, subst, arith, length-append}
 use Rattle.std.specs.Prelude.{◌-◌, ◌/◌, ◌*◌, replicate}
 use Rattle.std.proofs.lemmas.List.{length-replicate, take-append-le, length-take-le, take_all}
-use Rattle.btr_base.specs.Sum.{stored_sum, sum_from, sum_size}
-use Rattle.btr_base.specs.declared.kind.SumKind.{SumKind}
-use Rattle.btr_base.specs.declared.stored.Sum.{Sum}
+use Rattle.btr_scrub.proofs.Common.{AddsTo, Checked, Emit, Follows, Gathered, Gathers, IsList, Looks, Map, Mark, Meeting, Met, OnlyReads, Return, SameVolume}
+use Rattle.btr_scrub.proofs.Common.{Sector, Seen, Serves, Sum, SumKind, Super, Tells, TreeFault, TreeItem, TreeRoot, Volume, Want, bind, drawn, exec}
+use Rattle.btr_scrub.proofs.Common.{exec-bind, key, kind_in, no_part, quiet, scene, sector, sector_met, sectors, stored_sum, sum_at, sum_size, unread_by}
+use Rattle.btr_base.specs.Sum.{sum_from}
 use Rattle.btr_items.specs.SumRun.{sum_run_of}
 use Rattle.btr_items.specs.Types.{extent_csum}
 use Rattle.btr_items.specs.declared.fault.ItemFault.{ItemFault}
 use Rattle.btr_items.specs.declared.sum_run.SumRun.{SumRun}
-use Rattle.btr_prog.specs.Answers.{Follows, no_part}
-use Rattle.btr_prog.specs.Prog.{Emit, Mark, Return, Run, after, bind, exec}
-use Rattle.btr_prog.specs.Quiet.{quiet}
+use Rattle.btr_prog.specs.Prog.{Run, after}
 use Rattle.btr_prog.proofs.Follow.{follows_then}
 use Rattle.btr_prog.proofs.Quieting.{follows_quiet}
-use Rattle.btr_prog.proofs.Runs.{exec-bind}
-use Rattle.btr_super.specs.declared.superblock.Super.{Super}
-use Rattle.btr_rack.specs.Rack.{OnlyReads, Seen}
 use Rattle.btr_read.specs.Fate as fate
-use Rattle.btr_read.specs.Serves.{Serves}
-use Rattle.btr_read.specs.declared.want.Want.{Want}
-use Rattle.btr_read.specs.declared.want.Want.TheVariants.{Sector}
-use Rattle.btr_walk.specs.Le.{TreeItem, le}
-use Rattle.btr_walk.specs.Reading.{HasCause, Map, Tells, unread_by}
-use Rattle.btr_walk.specs.declared.fault.TreeFault.{TreeFault}
-use Rattle.btr_volume.specs.Looking.{Looks, SameVolume}
+use Rattle.btr_walk.specs.Le.{le}
+use Rattle.btr_walk.specs.Reading.{HasCause}
 use Rattle.btr_volume.specs.Lookup.{formed}
-use Rattle.btr_volume.specs.Tree.{key}
-use Rattle.btr_volume.specs.declared.root.TreeRoot.{TreeRoot}
 use Rattle.btr_volume.specs.declared.stop.Stop.TheVariants as stop
-use Rattle.btr_volume.specs.declared.volume.Volume.{Volume}
-use Rattle.btr_walk.proofs.Joined.{drawn}
-use Rattle.btr_files.specs.Sums.{covers, is_sums, kind_in, sum_at, sum_found, sum_in, sums_objectid}
-use Rattle.btr_scrub.specs.Gathering.{Gathers, scene}
-use Rattle.btr_scrub.specs.Listed.{AddsTo, IsList}
-use Rattle.btr_scrub.specs.Units.{Checked, Meeting, Met, sector, sector_met, sectors}
-use Rattle.btr_scrub.specs.declared.gathered.Gathered.{Gathered}
+use Rattle.btr_files.specs.Sums.{covers, is_sums, sum_found, sum_in, sums_objectid}
 use Rattle.btr_scrub.proofs.Gathering.{gathers_fault, gathers_halt, gathers_memory, gathers_none, gathers_then, lists_added, lists_none}
 use Rattle.btr_scrub.proofs.Listing.{size_few}
 
@@ -47,6 +30,7 @@ stored_again kind xs le =
     ap (sum_from kind) (take-append-le (sum_size kind) (take (sum_size kind) xs) (replicate (32 - sum_size kind) 0) (omega (arith, long))
     ∙ take_all (sum_size kind) (take (sum_size kind) xs) (omega (arith, long)))
 
+-- a stored checksum is stored as it is
 pub again : (kind : SumKind) (bytes : List ℕ) (sum : Sum) → length sum.bytes ≡ 32 → sum ≡ stored_sum kind bytes → stored_sum kind sum.bytes ≡ sum
 again kind bytes sum long e =
     let size = sum_size kind in
@@ -56,30 +40,37 @@ again kind bytes sum long e =
     ap (λ (s : Sum). stored_sum kind s.bytes) e ∙ stored_again kind bytes le ∙ sym e
 
 module _ (B : Map) (kind : SumKind) (addr : ℕ) (sum : Sum) where
+  -- the checksum stands in some bytes
   abbrev Stored : Type 0
   Stored = (bytes : List ℕ) × (sum ≡ stored_sum kind bytes)
 
+  -- two answers of a look-up are the same
   abbrev Same : Result (Option Sum) fate.Fault → Result (Option Sum) fate.Fault → Type 0
   Same a b = a ≡ b
 
+  -- so does one that was taken from bytes
   covered : (b : Bool) (bytes : List ℕ) → Same (Ok (cond b (Some (stored_sum kind bytes)) None)) (Ok (Some sum)) → Stored
   covered true bytes h = (bytes, let e : stored_sum kind bytes ≡ sum = cc in sym e)
   covered false bytes h = cc
 
+  -- so does one that was found in an item's run of checksums
   in_run : (item : TreeItem) (r : Result SumRun ItemFault) → (exec B (formed {S = ⊥} item r (λ run. Return (sum_in kind addr item.body run)))).ending
       ≡ Ok (Some sum) → Stored
   in_run item (Ok run) h = covered (covers run addr) (drop ((addr - run.start) / 4096 * sum_size kind) item.body) h
   in_run item (Err f) h = cc
 
+  -- so does one that was found in an item, where that is one of checksums
   in_item : (item : TreeItem) (b : Bool) → (exec B (cond b (formed {S = ⊥} item (sum_run_of kind item.key item.body)
       (λ run. Return (sum_in kind addr item.body run))) (Return None))).ending ≡ Ok (Some sum) → Stored
   in_item item true h = in_run item (sum_run_of kind item.key item.body) h
   in_item item false h = cc
 
+  -- so does one that was found in the item that was looked up, if there is one
   in_found : (found : Option TreeItem) → (exec B (sum_found kind addr found)).ending ≡ Ok (Some sum) → Stored
   in_found None h = cc
   in_found (Some item) h = in_item item (is_sums item.key) h
 
+  -- so does one that was found behind what the look-up read
   behind : (ms : List (Mark Want ⊥)) (e : Result (Option TreeItem) fate.Fault) → (after ms e (λ found. exec B (sum_found kind addr found))).ending
       ≡ Ok (Some sum) → Stored
   behind ms (Ok found) h = in_found found h
@@ -92,6 +83,7 @@ module _ (B : Map) (kind : SumKind) (addr : ℕ) (sum : Sum) where
       let p = le {S = ⊥} tree.place (key sums_objectid extent_csum addr) in
       behind (exec B p).marks (exec B p).ending (sym (ap (λ (r : Run Want fate.Fault ⊥ (Option Sum)). r.ending) (exec-bind B p (sum_found kind addr))) ∙ h)
 
+-- a sector is met, with the checksum that was found for it, if one was
 abbrev pub met_of : ℕ → Option Sum → Meeting (Unit {0})
 met_of addr found = Emit (sector_met addr found) (Return tt)
 
@@ -149,6 +141,7 @@ sectors_first s sums count addr i lt =
     let next : addr + i * 4096 + 4096 ≡ addr + (i + 1) * 4096 = omega arith in
     ap (λ n. sectors s sums n (addr + i * 4096)) more ∙ ap (λ a. bind (sector s sums (addr + i * 4096)) (λ u. sectors s sums (count - (i + 1)) a)) next
 
+-- with none of them treated all are left
 pub sectors_all : (s : Super) (sums : Option TreeRoot) (count addr : ℕ) → sectors s sums count addr ≡ sectors s sums (count - 0) (addr + 0 * 4096)
 sectors_all s sums count addr =
     let all : count ≡ count - 0 = omega arith in

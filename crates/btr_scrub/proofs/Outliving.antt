@@ -1,44 +1,23 @@
 -- Whatever stands in the ranges of the writes, each checked block can be had.
 use Rattle.std.proofs.Common.{◌≡◌, ◌⊎◌, ℕ, ◌+◌, ◌*◌, ◌<◌, ◌≤◌, Bool, true, false, not, cond, ◌&&◌, ◌||◌, eqb, List, [], ◌∷◌, map, slice_get, Option, Some, None}
 use Rattle.std.proofs.Common.{is_some, IsSome, IsSomeAnd, refl, sym, ap, ◌∙◌, subst, inl, inr, arith, Result, Ok, Err}
-use Rattle.std.proofs.lemmas.Bool.{false≢true, and_from, and_parts, eq-eqb, or_parts, both_ways, not-true, false_from_ne_true}
-use Rattle.std.specs.Str.{bytes_eq}
-use Rattle.std.proofs.lemmas.Option.{same_Some}
-use Rattle.std.specs.List.{cons_option, list_any, range_with_len}
-use Rattle.std.specs.Option.{option_map, option_map_or}
+use Rattle.btr_scrub.proofs.Common.{AreApart, Candidate, Elements, Failing, Fault, HaveLengths, HaveOwnSlots, Images, IsSought, IsTable, KeepsOutside, Layout}
+use Rattle.btr_scrub.proofs.Common.{Mirror, Part, Read, Target, Want, Write, accepted, addr_of, all_writes_for, and_from, and_parts, bad_parts, bytes_eq}
+use Rattle.btr_scrub.proofs.Common.{candidates, cons_option, eq-eqb, false_from_ne_true, false≢true, first_missing, fresh, has_mirror, in_below, is_in_row}
+use Rattle.btr_scrub.proofs.Common.{is_on_behind, is_plain, is_sound, is_stale, len_of, list_any, mending_writes, mirrors, new_bytes, not-true, ok_or_none}
+use Rattle.btr_scrub.proofs.Common.{option_map, option_map_or, or_parts, own_parts, passing_filter, place_at, range_of, range_with_len, renewed, row_of}
+use Rattle.btr_scrub.proofs.Common.{row_writes, same_Some, size_of, sought, sought_of, stale_beside, stale_parts, stands, stripe_length, targets, value_of}
+use Rattle.btr_scrub.proofs.Common.{wrong_parts}
+use Rattle.std.proofs.lemmas.Bool.{both_ways}
 use Rattle.btr_chunk.specs.Apart.{IsOfCopy}
-use Rattle.btr_chunk.specs.Chunk.{mirrors, stripe_length}
-use Rattle.btr_chunk.specs.Mapping.{place_at}
-use Rattle.btr_chunk.specs.Table.{IsTable}
-use Rattle.btr_chunk.specs.declared.place.Part.{Part}
-use Rattle.btr_chunk.specs.declared.place.Part.TheVariants.{Mirror}
-use Rattle.btr_chunk.specs.declared.position.Elements.{Elements}
 use Rattle.btr_chunk.proofs.Apart.{copies_apart}
 use Rattle.btr_rack.specs.declared.place.Place.{Place as Range}
-use Rattle.btr_read.specs.Candidates.{Target, candidates, element, range_of, size_of, stands, value_of}
-use Rattle.btr_read.specs.Fate.{is_plain, Fault, sought}
-use Rattle.btr_read.specs.Layout.{HaveOwnSlots, Layout}
-use Rattle.btr_read.specs.Want.{addr_of, len_of}
-use Rattle.btr_read.specs.declared.candidate.Candidate.{Candidate}
-use Rattle.btr_read.specs.declared.candidate.Candidate.TheVariants.{Read}
-use Rattle.btr_read.specs.declared.want.Want.{Want}
-use Rattle.btr_read.proofs.Fates.{sought_of}
-use Rattle.btr_read.proofs.Ones.{in_below}
+use Rattle.btr_read.specs.Candidates.{element}
 use Rattle.btr_read.proofs.Order.{in_candidates, in_ways, with_copies}
-use Rattle.btr_scrub_copies.specs.Blocks.{accepted, bad_parts, is_sound, own_parts}
-use Rattle.btr_scrub_copies.proofs.Syncs.{passing_filter}
-use Rattle.btr_scrub_copies.specs.Writes.{Images, Write}
-use Rattle.btr_scrub_copies.proofs.Copied.{has_mirror}
-use Rattle.btr_scrub_row.specs.Rows.{row_writes}
-use Rattle.btr_scrub_row.specs.Wanted.{mending_writes, new_bytes, renewed, wrong_parts}
-use Rattle.btr_scrub.specs.Devices.{HaveLengths}
 use Rattle.btr_scrub.specs.BlocksInRows.{In}
-use Rattle.btr_scrub.specs.WrittenRanges.{KeepsOutside}
-use Rattle.btr_scrub.specs.Order.{AreApart, IsSought, targets}
-use Rattle.btr_scrub_copies.specs.Fresh.{Failing, first_trusted, fresh, is_on_behind, is_on_doubtful, is_stale, reads_doubtful, stale_beside, stale_parts}
-use Rattle.btr_scrub.specs.Repair.{covers, first_missing, is_in_row, ok_or_none, row_of}
+use Rattle.btr_scrub_copies.specs.Fresh.{first_trusted, is_on_doubtful, reads_doubtful}
+use Rattle.btr_scrub.specs.Repair.{covers}
 use Rattle.btr_scrub.specs.Right.{Committed, HasFewWrongAt, HasRightPlace, StandsFor}
-use Rattle.btr_scrub.specs.Scrubbing.{all_writes_for}
 use Rattle.btr_scrub.specs.Staying.{AvoidRight, IsInCopies, IsInWrong}
 use Rattle.btr_scrub.proofs.AcrossChunks.{copy_in_chunk, element_in_chunk, one_chunk, row_is, ForCopies, ForRow, for_one}
 use Rattle.btr_scrub.proofs.Agreeing.{IsTrusted, trusted_from}
@@ -48,7 +27,7 @@ use Rattle.btr_scrub.proofs.OwnPlaces.{own_copies, over_byte, wrong_own}
 use Rattle.btr_scrub.proofs.Lists.{any_in, in_any, in_map, of_mapped, in_filter, some_of, any_map, any_is, is_any}
 use Rattle.btr_scrub.proofs.Positions.{IsCopyByte, copy_of_range, is_of_copy, of_range, shares}
 use Rattle.btr_scrub.proofs.RowWrites.{written_row}
-use Rattle.btr_scrub.proofs.RowNumbers.{row_fits}
+use Rattle.btr_scrub.proofs.RowNumbers.{IsWholeChunk, row_fits}
 use Rattle.btr_scrub.proofs.SoundRows.{CanBeHad, is_row, right_is_sound, right_passes, right_there, sound_row}
 use Rattle.btr_scrub.proofs.Staying.{row_outlives_writes}
 use Rattle.btr_scrub.proofs.Writes.{row_writes_are_wrong}
@@ -56,8 +35,7 @@ use Rattle.btr_scrub.proofs.Inert.{sure_device}
 
 -- blocks that are apart and have an address in common are the same
 pub same_block : (layout : Layout) (wants : List Want) (end : ℕ) (t u : Target) (one other : ℕ) → AreApart layout end wants
-    → In t (targets layout wants) → In u (targets layout wants)
-    → one < size_of t → other < size_of u → addr_of t.want + one ≡ addr_of u.want + other → t ≡ u
+    → In t (targets layout wants) → In u (targets layout wants) → one < size_of t → other < size_of u → addr_of t.want + one ≡ addr_of u.want + other → t ≡ u
 same_block layout [] end t u one other apart i j lt below same = absurd i
 same_block layout (w ∷ ws) end t u one other apart i j lt below same = by (sought layout w) refl i j
     (λ k l. same_block layout ws (addr_of w + len_of layout.setting w) t u one other apart.2 k l lt below same)
@@ -80,8 +58,7 @@ same_block layout (w ∷ ws) end t u one other apart i j lt below same = by (sou
       arith,
       same,
       below,
-      subst (λ (x : Target). addr_of x.want + size_of x ≤ addr_of t.want) f
-          (before v t s i),
+      subst (λ (x : Target). addr_of x.want + size_of x ≤ addr_of t.want) f (before v t s i),
     ))
     by (Ok v) s (inr i) (inr j) rest = rest i j
 
@@ -93,27 +70,31 @@ same_copy layout t slot off table own is b c =
     let q = place_at t.chunk (Mirror c.copy) t.at in
     let devid : p.devid ≡ q.devid = own p.devid q.devid b.device c.device b.given c.given (b.same_slot ∙ sym c.same_slot) in
     (copies_apart layout.chunks (record { devid = p.devid; offset = off }) is.number is.number b.copy c.copy (addr_of t.want + b.behind)
-    (addr_of t.want + c.behind) table
-    (is_of_copy layout t slot off table is b)
+    (addr_of t.want + c.behind) table (is_of_copy layout t slot off table is b)
     (subst (λ d. IsOfCopy layout.chunks (record { devid = d; offset = off }) is.number c.copy (addr_of t.want + c.behind)) (sym devid)
     (is_of_copy layout t slot off table is c))).1
 
 module _ (kept : Failing) (images : Images) (layout : Layout) (wants : List Want) (table : IsTable layout.chunks)
     (own : HaveOwnSlots layout.devices) (none : first_missing layout ≡ None) (lengths : HaveLengths images layout) (apart : AreApart layout 0 wants) where
+  -- the blocks and plain sectors of the wants that have a position
   abbrev ts : List Target
   ts = targets layout wants
 
+  -- all that is written for the wants
   abbrev ws : List Write
   ws = all_writes_for kept layout layout.chunks wants images
 
+  -- the ranges of what is written
   abbrev ranges : List Range
   ranges = map (λ (w : Write). w.range) ws
 
+  -- a write covers a byte
   abbrev covered_at : ℕ → ℕ → Write → Bool
   covered_at slot off w = covers slot off w.range
 
   -- ---- what a byte is written for
 
+  -- a byte of what is written is so for a block with copies, or for a full stripe
   for_what : (slot off : ℕ) → list_any (covers slot off) ranges ≡ true → (w : Write) × (covers slot off w.range ≡ true)
       × (ForCopies kept images layout wants w ⊎ ForRow kept images layout wants w)
   for_what slot off h =
@@ -122,6 +103,7 @@ module _ (kept : Failing) (images : Images) (layout : Layout) (wants : List Want
 
   -- ---- writes for copies leave all else
 
+  -- what is written for a block with copies lies in its copies
   in_copies : (slot off : ℕ) (w : Write) → covers slot off w.range ≡ true → ForCopies kept images layout wants w → IsInCopies layout slot off
   in_copies slot off w on c =
       let b = copy_in_chunk layout c.block slot off table c.is
@@ -143,6 +125,7 @@ module _ (kept : Failing) (images : Images) (layout : Layout) (wants : List Want
 
   module _ (t : Target) (among : In t ts) (is : IsSought layout t) (n : ℕ) (has : mirrors t.chunk ≡ Some n) where
     module _ (k : ℕ) (lt : k < n) (range : Range) (whole : range_of t (Mirror k) ≡ Some range) where
+      -- a byte in the copy's range is a byte of the block's copies
       abbrev byte : (slot off : ℕ) → covers slot off range ≡ true → IsCopyByte layout t slot off
       byte slot off c = of_range layout t k slot off range is (has_mirror t n k has lt) whole c
 
@@ -153,8 +136,7 @@ module _ (kept : Failing) (images : Images) (layout : Layout) (wants : List Want
           let j = of_mapped Mirror part (range_with_len 0 n) (subst (In part) (own_copies t n has) mine) in
           let mirror = has_mirror t n j.0 has (in_below n j.0 j.1) in
           let at_j : range_of t (Mirror j.0) ≡ Some other = ap (range_of t) j.2 ∙ at in
-          let same : j.0 ≡ k =
-          sym (copy_of_range layout t j.0 slot off other is mirror at_j there)
+          let same : j.0 ≡ k = sym (copy_of_range layout t j.0 slot off other is mirror at_j there)
           ∙ same_copy layout t slot off table own is (of_range layout t j.0 slot off other is mirror at_j there) (byte slot off c)
           ∙ copy_of_range layout t k slot off range is (has_mirror t n k has lt) whole c in
           sym j.2 ∙ ap Mirror same
@@ -180,18 +162,20 @@ module _ (kept : Failing) (images : Images) (layout : Layout) (wants : List Want
             not_own slot off c (subst (λ u. list_any (covered_at slot off) (mending_writes images kept u) ≡ true) (sym same) written)
         not_written slot off c w on (inr f) =
             let row = row_of kept ts f.chunk f.row in
-            let of = row_is kept layout table own none f.number f.chunk f.there wants f.row f.parity f.inside in
+            let of = row_is f.whole kept wants f.row f.inside in
             let w = written_row layout row table of.is images slot off of.blocks (is_any (covered_at slot off) w (row_writes images layout row) f.written on) in
             let number : is.number ≡ w.1.number =
             one_chunk layout is.number w.1.number slot off table own (copy_in_chunk layout t slot off table is (byte slot off c))
             (element_in_chunk layout row w.0 slot off table w.1) in
             let chunk : t.chunk ≡ f.chunk = same_Some t.chunk f.chunk (sym is.there ∙ ap (slice_get layout.chunks) number ∙ w.1.there) in
-            false≢true (sym (ap is_some f.parity) ∙ ap (λ k. is_some (mirrors k)) (sym chunk) ∙ ap is_some has)
+            false≢true (sym (ap is_some f.whole.of.parity) ∙ ap (λ k. is_some (mirrors k)) (sym chunk) ∙ ap is_some has)
 
+        -- so nothing is written there
         free : (slot off : ℕ) → covers slot off range ≡ true → list_any (covers slot off) ranges ≡ false
         free slot off c = false_from_ne_true (list_any (covers slot off) ranges) (λ e.
             let f = for_what slot off e in absurd (not_written slot off c f.0 f.1 f.2))
 
+        -- and the copy stays
         stays : (left : Images) → KeepsOutside ranges images left → element left t (Mirror k) ≡ element images t (Mirror k)
         stays left keeps = same_element images left layout ranges t (Mirror k) lengths is keeps
             (λ slot off c. free slot off (subst (λ o. IsSomeAnd o (λ range. covers slot off range ≡ true)) whole c))
@@ -204,15 +188,18 @@ module _ (kept : Failing) (images : Images) (layout : Layout) (wants : List Want
           false≢true (sym (sure_device kept t.devices (place_at t.chunk (Mirror k) t.at).devid sure)
           ∙ stale (fresh images kept t) (subst (λ b. In (Mirror k) (cond b (stale_parts images kept t) (bad_parts images t))) sector i)))
         where
+          -- a copy that is stale lies on an image that is behind
           stale : (o : Option (List ℕ)) → In (Mirror k) (option_map_or (stale_beside images kept t) o []) → is_on_behind kept t (Mirror k) ≡ true
           stale None i = absurd i
           stale (Some bytes) i =
               let p = passing_filter (is_stale images kept t bytes) (Mirror k) (own_parts t) i in
               (and_parts (is_on_behind kept t (Mirror k)) (not (bytes_eq (element images t (Mirror k)) bytes)) p.1).0
 
+      -- so its fresh bytes stay
       fresh_stays : (left : Images) → KeepsOutside ranges images left → fresh left kept t ≡ fresh images kept t
       fresh_stays left keeps = by (first_trusted kept t) refl
         where
+          -- a candidate that is trusted gives the same in what is left
           same : (c : Candidate) → IsTrusted kept t c → value_of left t c ≡ value_of images t c
           same c trusted =
               let j = of_mapped (λ copy. Read (Mirror copy)) c (range_with_len 0 n) (subst (In c) (with_copies t n has) (in_ways t c trusted.there)) in
@@ -231,6 +218,7 @@ module _ (kept : Failing) (images : Images) (layout : Layout) (wants : List Want
 
   -- ---- all plain sectors with copies
 
+  -- the fresh bytes of a sector without a checksum that has copies stay
   pub fresh_outlives : (left : Images) (t : Target) → In t ts → is_plain t.want ≡ true → IsSome (mirrors t.chunk) → KeepsOutside ranges images left
       → fresh left kept t ≡ fresh images kept t
   fresh_outlives left t among sector copies keeps =
@@ -240,16 +228,16 @@ module _ (kept : Failing) (images : Images) (layout : Layout) (wants : List Want
   -- ---- blocks that can be had
 
   module _ (C : Committed) (had : CanBeHad kept images layout C wants) where
+    -- what is written for a full stripe lies where it is wrong
     in_wrong : (slot off : ℕ) (w : Write) → covers slot off w.range ≡ true → ForRow kept images layout wants w → IsInWrong images layout C kept ts slot off
     in_wrong slot off w on f =
         let row = row_of kept ts f.chunk f.row in
-        row_writes_are_wrong images layout C kept ts row slot off table
-        (is_row kept images layout C wants table own none lengths had apart f.number f.chunk f.there f.row f.parity f.inside)
-        (sound_row kept images layout C wants table own none lengths had apart f.number f.chunk f.there f.row f.parity f.inside)
-        (right_there kept images layout C wants table own none lengths had apart f.number f.chunk f.there f.row f.parity f.inside)
+        row_writes_are_wrong images layout C kept ts row slot off table (is_row had lengths apart f.whole f.row f.inside)
+        (sound_row had lengths apart f.whole f.row f.inside) (right_there had lengths apart f.whole f.row f.inside)
         (any_map (covers slot off) (λ (w : Write). w.range) (row_writes images layout row)
         ∙ is_any (covered_at slot off) w (row_writes images layout row) f.written on)
 
+    -- all that is written avoids what is right
     avoid : AvoidRight images layout C kept ts ranges
     avoid slot off h = let f = for_what slot off h in elim f.2 [ inl c ↦ inr (in_copies slot off f.0 f.1 c) | inr r ↦ inl (in_wrong slot off f.0 f.1 r) ]
 
@@ -257,20 +245,26 @@ module _ (kept : Failing) (images : Images) (layout : Layout) (wants : List Want
       -- ---- blocks of full stripes
 
       module _ (parity : mirrors t.chunk ≡ None) where
-        fits : t.at.row * 65536 + 65536 ≤ stripe_length t.chunk
-        fits = omega (arith, row_fits layout table is.number t.chunk is.there parity (addr_of t.want) is.held, ap (λ (e : Elements). e.row) is.at)
+        -- its chunk has parity, and no device is missing
+        whole : IsWholeChunk layout is.number t.chunk
+        whole = record { of = record { table = table; there = is.there; parity = parity }; own = own; given = none }
 
+        -- its row lies in the chunk's stripes
+        fits : t.at.row * 65536 + 65536 ≤ stripe_length t.chunk
+        fits = omega (arith, row_fits whole.of (addr_of t.want) is.held, ap (λ (e : Elements). e.row) is.at)
+
+        -- it is one of its row
         mine : In t (row_of kept ts t.chunk t.at.row).blocks
         mine = in_filter (is_in_row t.chunk t.at.row) t ts among
             (and_from (eqb t.chunk.start t.chunk.start) (eqb t.at.row t.at.row) (eq-eqb t.chunk.start t.chunk.start refl) (eq-eqb t.at.row t.at.row refl))
 
+        -- so it can be had, where it can be spared
         row_outlives : HasRightPlace images C t ⊎ HasFewWrongAt images layout C (row_of kept ts t.chunk t.at.row) t → (left : Images)
             → KeepsOutside ranges images left → StandsFor left C t
         row_outlives spared left keeps =
             row_outlives_writes images left layout C kept ts (row_of kept ts t.chunk t.at.row) ranges t table own lengths
-            (is_row kept images layout C wants table own none lengths had apart is.number t.chunk is.there t.at.row parity fits) avoid keeps
-            (sound_row kept images layout C wants table own none lengths had apart is.number t.chunk is.there t.at.row parity fits)
-            (right_passes kept images layout C wants table own none lengths had t is) spared mine checked
+            (is_row had lengths apart whole t.at.row fits) avoid keeps (sound_row had lengths apart whole t.at.row fits)
+            (right_passes had t is) spared mine checked
 
       -- ---- blocks with copies
 
@@ -283,8 +277,9 @@ module _ (kept : Failing) (images : Images) (layout : Layout) (wants : List Want
             let accepts : accepted images t ≡ Some bytes = sym (ap (λ b. cond b (renewed images kept t) (accepted images t)) checked) ∙ gets in
             both_ways (is_sound images t (Mirror k)) (not-true (is_sound images t (Mirror k))
             (passing_filter (λ part. not (is_sound images t part)) (Mirror k) (own_parts t) bad).1)
-            (right_is_sound kept images layout C wants table own none lengths had t among checked is (Mirror k) bytes accepts right))
+            (right_is_sound had t among checked is (Mirror k) bytes accepts right))
 
+        -- so it can be had, where a place of its own is right
         copies_outlive : HasRightPlace images C t → (left : Images) → KeepsOutside ranges images left → StandsFor left C t
         copies_outlive right_copy left keeps =
             let a = in_any (λ part. C t.want ≡ Some (element images t part)) (own_parts t) right_copy in
@@ -300,11 +295,13 @@ module _ (kept : Failing) (images : Images) (layout : Layout) (wants : List Want
 
     -- ---- all blocks
 
+    -- a checked block that can be spared can be had
     pub block_outlives : (left : Images) (t : Target) → In t ts → is_plain t.want ≡ false
         → HasRightPlace images C t ⊎ ((mirrors t.chunk ≡ None) × HasFewWrongAt images layout C (row_of kept ts t.chunk t.at.row) t)
         → KeepsOutside ranges images left → StandsFor left C t
     block_outlives left t among checked spared keeps = by (mirrors t.chunk) refl spared
       where
+        -- its position is that of its address
         is : IsSought layout t
         is = target_sought layout wants t among
 

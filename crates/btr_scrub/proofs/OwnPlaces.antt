@@ -1,17 +1,9 @@
 -- The places at which something is wrong with a block are its own.
 use Rattle.std.proofs.Common.{◌≡◌, Bool, true, false, not, cond, List, [], ◌∷◌, map, Option, Some, None, ℕ, ap, subst, inl, inr, refl, ◌∙◌}
-use Rattle.std.specs.List.{range_with_len, list_any}
-use Rattle.btr_chunk.specs.Chunk.{mirrors}
-use Rattle.btr_chunk.specs.declared.place.Part.TheVariants.{Mirror, Slice}
-use Rattle.std.specs.Option.{option_map_or, option_map}
-use Rattle.btr_chunk.specs.declared.place.Part.{Part}
-use Rattle.btr_read.specs.Candidates.{Target, range_of}
-use Rattle.btr_read.specs.Fate.{is_plain}
-use Rattle.btr_scrub_copies.specs.Blocks.{bad_parts, is_sound, own_parts, copy_writes}
-use Rattle.btr_scrub_copies.specs.Fresh.{Failing, fresh, is_stale, stale_beside, stale_parts}
-use Rattle.btr_scrub_copies.specs.Writes.{Images, Write}
-use Rattle.btr_scrub_copies.proofs.Syncs.{passing_filter}
-use Rattle.btr_scrub_row.specs.Wanted.{wrong_parts, mending_writes, new_bytes}
+use Rattle.btr_scrub.proofs.Common.{Failing, Images, Mirror, Part, Target, Write, bad_parts, copy_writes, fresh, is_plain, is_sound, is_stale, list_any}
+use Rattle.btr_scrub.proofs.Common.{mending_writes, mirrors, new_bytes, option_map, option_map_or, own_parts, passing_filter, range_of, range_with_len}
+use Rattle.btr_scrub.proofs.Common.{stale_beside, stale_parts, wrong_parts}
+use Rattle.btr_chunk.specs.declared.place.Part.TheVariants.{Slice}
 use Rattle.btr_scrub.specs.BlocksInRows.{In}
 use Rattle.btr_rack.specs.declared.place.Place.{Place as Range}
 use Rattle.btr_scrub_row.proofs.Settled.{mending_is}
@@ -53,6 +45,7 @@ pub record IsOver (images : Images) (fails : Failing) (t : Target) (w : Write) :
   pub range : range_of t part ≡ Some w.range
   pub gets : new_bytes images fails t ≡ Some w.bytes
 
+-- each write for a block is such a one
 pub is_over : (images : Images) (fails : Failing) (t : Target) (w : Write) → In w (mending_writes images fails t) → IsOver images fails t w
 is_over images fails t w i =
     by (new_bytes images fails t) refl (subst (In w) (mending_is images (record { chunk = t.chunk; number = 0; blocks = []; failing = fails }) t) i)

@@ -2,10 +2,9 @@
 use Rattle.std.proofs.Common.{◌≡◌, ℕ, zero, suc, ◌+◌, ◌-◌, ◌*◌, ◌/◌, ◌%◌, ◌<◌, ◌≤◌, List, [], ◌∷◌, ◌++◌, length, Some, None, Result, Ok, Err, OnOk, OnErr, drop}
 use Rattle.std.proofs.Common.{set, slice_get, take, Vec, refl, sym, ap, ◌∙◌, subst, arith, append_assoc, append-nil, length-append}
 use Rattle.std.proofs.Math.Seq.{take-suc}
-use Rattle.std.proofs.lemmas.List.{get_or-drop, length-drop, take_more_set}
-use Rattle.std.proofs.lemmas.Option.{get_or_from_slice_get, same_Some, slice_get_within}
-use Rattle.std.specs.declared.alloc.Global.{Global}
-use Rattle.btr_scrub.specs.Pages.{AreFull, items_in}
+use Rattle.btr_scrub.proofs.Common.{Global, get_or_from_slice_get, items_in, length-drop, same_Some, slice_get_within}
+use Rattle.std.proofs.lemmas.List.{get_or-drop, take_more_set}
+use Rattle.btr_scrub.specs.Pages.{AreFull}
 
 module _ {T : Type 0} where
   -- one more item
@@ -18,6 +17,7 @@ module _ {T : Type 0} where
   turned [] page = append-nil page.items
   turned (p ∷ ps) page = ap (λ xs. p.items ++ xs) (turned ps page)
 
+  -- a page with 4096 items can stand among the full ones
   pub turned_full : (full : List (Vec T Global)) (page : Vec T Global) → AreFull full → length page.items ≡ 4096 → AreFull (full ++ page ∷ [])
   turned_full [] page h e = (e, tt)
   turned_full (p ∷ ps) page h e = (h.0, turned_full ps page h.1 e)
@@ -28,6 +28,7 @@ get_left [] ys i lt = absurd (omega (arith, lt))
 get_left (x ∷ xs) ys zero lt = refl
 get_left (x ∷ xs) ys (suc i) lt = get_left xs ys i (omega (arith, lt))
 
+-- an item of the second of two lists lies behind the first
 get_right : {T : Type 0} (xs ys : List T) (i : ℕ) → slice_get (xs ++ ys) (length xs + i) ≡ slice_get ys i
 get_right [] ys i = ap (slice_get ys) (omega arith)
 get_right (x ∷ xs) ys i =
@@ -64,22 +65,26 @@ module _ {T : Type 0} where
   made_full full full' page (Ok u) h grown refused long = subst AreFull (sym grown) (turned_full full page h long)
   made_full full full' page (Err e) h grown refused long = subst AreFull (sym refused) h
 
+  -- the items stay where a full page is turned
   pub made_same : {E : Type 0} (full full' : List (Vec T Global)) (page next : Vec T Global) (result : Result (Unit {0}) E)
       → OnOk result (full' ≡ full ++ page ∷ []) → next.items ≡ [] → OnOk result (items_in full' next.items ≡ items_in full page.items)
   made_same full full' page next (Ok u) grown none = ap (λ xs. items_in xs next.items) grown ∙ ap (items_in (full ++ page ∷ [])) none ∙ turned full page
   made_same full full' page next (Err e) grown none = tt
 
+  -- one more item stands behind all
   pub pushed_on : {E : Type 0} (full : List (Vec T Global)) (last last' all : List T) (item : T) (result : Result (Unit {0}) E) → items_in full last
       ≡ all → OnOk result (last' ≡ last ++ item ∷ []) → OnOk result (items_in full last' ≡ all ++ item ∷ [])
   pushed_on full last last' all item (Ok u) is grown = ap (items_in full) grown ∙ pushed full last (item ∷ []) ∙ ap (λ xs. xs ++ item ∷ []) is
   pushed_on full last last' all item (Err e) is grown = tt
 
+  -- an item of a full page is read there
   pub page_read : (full : List (Vec T Global)) (last : List T) (page : Vec T Global) (i : ℕ) → AreFull full → slice_get full (i / 4096) ≡ Some page
       → slice_get (items_in full last) i ≡ slice_get page.items (i % 4096)
   page_read full last page i h e =
       let is : i ≡ i / 4096 * 4096 + i % 4096 = omega arith in
       ap (slice_get (items_in full last)) is ∙ in_page full last page (i / 4096) (i % 4096) h e (omega arith)
 
+  -- one behind the full pages is read from the last
   pub behind_read : (full : List (Vec T Global)) (last : List T) (n i : ℕ) → AreFull full → n ≡ length full → n ≤ i / 4096
       → slice_get (items_in full last) i ≡ slice_get last (i - n * 4096)
   behind_read full last n i h e le =
@@ -90,6 +95,7 @@ module _ {T : Type 0} where
   pub counted : (full : List (Vec T Global)) (last : List T) → length (items_in full last) ≡ length (items_in full []) + length last
   counted full last = ap length (pushed full [] last) ∙ length-append (items_in full []) last
 
+  -- where turning a page failed there are not more items
   pub made_fewer : {E : Type 0} (full full' : List (Vec T Global)) (last next : List T) (result : Result (Unit {0}) E) → OnErr result (full' ≡ full)
       → next ≡ [] → OnErr result (length (items_in full' next) ≤ length (items_in full last))
   made_fewer full full' last next (Ok u) refused none = tt
@@ -98,6 +104,7 @@ module _ {T : Type 0} where
       ap (λ xs. length (items_in xs next)) refused ∙ ap (λ xs. length (items_in full xs)) none in
       omega (arith, is, counted full last)
 
+  -- there is one item more at most
   pub one_more : {E : Type 0} (full : List (Vec T Global)) (last last' : List T) (item : T) (result : Result (Unit {0}) E) (len : ℕ)
       → length (items_in full last) ≤ len → OnOk result (last' ≡ last ++ item ∷ []) → OnErr result (last' ≡ last) → length (items_in full last') ≤ len + 1
   one_more full last last' item (Ok u) len le grown refused =
@@ -107,6 +114,7 @@ module _ {T : Type 0} where
   one_more full last last' item (Err e) len le grown refused =
       let is : length (items_in full last') ≡ length (items_in full last) = ap (λ xs. length (items_in full xs)) refused in omega (arith, is, le)
 
+  -- the items are those of the full pages, and those of the last one
   pub all_counted : (full : List (Vec T Global)) (last : List T) → AreFull full → length (items_in full last) ≡ length full * 4096 + length last
   all_counted [] last h = omega arith
   all_counted (p ∷ ps) last h =

@@ -1,15 +1,16 @@
 -- Writes that have at most as many bytes as their ranges change nothing but those.
 use Rattle.std.proofs.Common.{◌≡◌, ◌⊎◌, ℕ, suc, ◌+◌, ◌<◌, ◌≤◌, Bool, true, false, ◌&&◌, leb, ltb, List, [], ◌∷◌, map, length, get_or, set, refl, sym, ap, ◌-◌}
 use Rattle.std.proofs.Common.{subst, ◌∙◌, inl, inr, arith, All}
-use Rattle.std.proofs.lemmas.Bool.{false≢true, cases_eq, cases_lt, eq-eqb, le-leb, lt-ltb, or_parts, or_from, false_from_ne_true}
+use Rattle.btr_scrub.proofs.Common.{Images, KeepsOutside, Write, cases_lt, eq-eqb, false_from_ne_true, false≢true, flat_map, image_of, le-leb, length-pasted}
+use Rattle.btr_scrub.proofs.Common.{list_any, lt-ltb, or_parts, pasted, write_on, writes_if}
+use Rattle.std.proofs.lemmas.Bool.{cases_eq, or_from}
 use Rattle.std.proofs.lemmas.List.{length-set, get_or-set_same, get_or-set_other, set_past, get_or_past}
-use Rattle.std.specs.List.{fold, list_any, flat_map}
-use Rattle.btr_rack.specs.Rack.{image_of, pasted, written}
+use Rattle.std.specs.List.{fold}
+use Rattle.btr_rack.specs.Rack.{written}
 use Rattle.btr_rack.specs.declared.place.Place.{Place as Range}
-use Rattle.btr_scrub.specs.WrittenRanges.{KeepsOutside, WritesKeepTheRest}
+use Rattle.btr_scrub.specs.WrittenRanges.{WritesKeepTheRest}
 use Rattle.btr_scrub.specs.Repair.{covers}
-use Rattle.btr_scrub_copies.specs.Writes.{Images, Write, write_on, writes_if}
-use Rattle.btr_scrub_row.proofs.Pasted.{length-pasted, pasted-outside, pasted-within}
+use Rattle.btr_scrub_row.proofs.Pasted.{pasted-outside, pasted-within}
 use Rattle.btr_scrub.proofs.Lists.{any_flat, any_map}
 use Rattle.btr_scrub.specs.BlocksInRows.{In}
 use Rattle.std.proofs.lemmas.List.Elements.{All-nil, All-append}
@@ -21,8 +22,7 @@ not_covered slot off range e same = elim (cases_lt off range.off) [
   | inl lt ↦ inl lt
   | inr le ↦ elim (cases_lt off (range.off + range.len)) [
     | inl below ↦
-        let yes : covers slot off range ≡ true =
-        ap (λ b. (b && leb range.off off) && ltb off (range.off + range.len)) (eq-eqb range.slot slot same)
+        let yes : covers slot off range ≡ true = ap (λ b. (b && leb range.off off) && ltb off (range.off + range.len)) (eq-eqb range.slot slot same)
         ∙ ap (λ b. b && ltb off (range.off + range.len)) (le-leb range.off off le)
         ∙ lt-ltb off (range.off + range.len) below in
         absurd (false≢true (sym e ∙ yes))
@@ -42,6 +42,7 @@ image_set images slot s new long = elim (cases_eq s slot) [
   | inr ne ↦ ap length (get_or-set_other images slot s new [] ne)
 ]
 
+-- images differ from themselves in no range
 pub keeps_none : (images : Images) → KeepsOutside [] images images
 keeps_none images = record { count = refl; lengths = λ slot. refl; bytes = λ slot off e. refl }
 
@@ -61,6 +62,7 @@ pub record Short (images : Images) (write : Write) : Type 0 where
   pub short : length write.bytes ≤ write.range.len
   pub within : write.range.off + write.range.len ≤ length (image_of images write.range.slot)
 
+-- a write that fits changes its range at most
 pub one_short : (images : Images) (range : Range) (bytes : List ℕ) → length bytes ≤ range.len → range.off
     + range.len ≤ length (image_of images range.slot) → KeepsOutside (range ∷ []) images (written images range.slot range.off bytes)
 one_short images range bytes short within =
@@ -84,10 +86,12 @@ one_short images range bytes short within =
       ];
     }
   where
+    -- what lies outside the range lies outside the bytes
     outside : (off : ℕ) → (off < range.off) ⊎ (range.off + range.len ≤ off) → (off < range.off) ⊎ (range.off + length bytes ≤ off)
     outside off (inl lt) = inl lt
     outside off (inr le) = inr (omega (arith, le, short))
 
+-- so do writes that fit
 pub shorts_keep : (images : Images) (writes : List Write) → All (Short images) writes
     → KeepsOutside (map (λ (write : Write). write.range) writes) images (fold write_on images writes)
 shorts_keep images [] fit = keeps_none images
@@ -105,6 +109,7 @@ pub shorts_keep_if : (write : Bool) (images : Images) (ws : List Write) → All 
 shorts_keep_if true images ws fit = shorts_keep images ws fit
 shorts_keep_if false images ws fit = record { count = refl; lengths = λ slot. refl; bytes = λ slot off e. refl }
 
+-- writes that fit change nothing but their ranges
 pub writes_keep_the_rest : WritesKeepTheRest
 writes_keep_the_rest images writes fit =
     shorts_keep images writes (λ i d below. let f = fit i d below in record { short = omega (arith, f.long); within = f.within })
@@ -146,9 +151,11 @@ unmoved_by write images f xs Here Told short apart stays =
 -- ---- a byte that one write brings
 
 module _ (slot off : ℕ) (w : Write) (long : length w.bytes ≡ w.range.len) (there : covers slot off w.range ≡ true) where
+  -- the byte is the one that the write brings
   abbrev IsBrought : Images → Type 0
   IsBrought images = get_or (image_of images slot) off 0 ≡ get_or w.bytes (off - w.range.off) 0
 
+  -- the write brings it
   brought : (images : Images) → Short images w → IsBrought (write_on images w)
   brought images f =
       let c = covering slot off w.range there in
@@ -170,9 +177,11 @@ module _ (slot off : ℕ) (w : Write) (long : length w.bytes ≡ w.range.len) (t
       record { short = g.short; within = omega (arith, g.within, one.lengths (get_or ws i d).range.slot) }) (λ u i. only u (inr i))
       (by (covers slot off v.range) refl h)
     where
+      -- the first write fits
       f : Short images v
       f = fit 0 v (omega arith)
 
+      -- it changes nothing outside its range
       one : KeepsOutside (v.range ∷ []) images (write_on images v)
       one = one_short images v.range v.bytes f.short f.within
 

@@ -2,23 +2,13 @@
 use Rattle.std.proofs.Common.{◌≡◌, ℕ, zero, suc, ◌+◌, ◌-◌, ◌*◌, ◌%◌, ◌<◌, ◌≤◌, true, false, cond, ◌&&◌, ltb, List, Some, Ok, Err, IsOk, refl, sym, ap, ◌∙◌}
 use Rattle.std.proofs.Common.{subst, arith}
 use Rattle.std.specs.Prelude.{slice_get}
-use Rattle.std.proofs.lemmas.Bool.{le-ltb, or_from, and_right, false_from_ne_true}
-use Rattle.btr_chunk.specs.Chunk.{is_striped}
-use Rattle.btr_chunk.specs.Mapping.{crosses, holds, position}
-use Rattle.btr_chunk.specs.Table.{IsTable, chunk_at}
-use Rattle.btr_chunk.specs.declared.chunk.Chunk.{Chunk}
+use Rattle.btr_scrub.proofs.Common.{AreUpTo, Chunk, IsFirstRefused, IsTable, Layout, Plain, TreeFault, Want, addr_of, chunk_at, crosses, facts}
+use Rattle.btr_scrub.proofs.Common.{false_from_ne_true, holds, is_striped, len_of, plains_from, position, sought, sought_at, sought_in}
+use Rattle.std.proofs.lemmas.Bool.{le-ltb, or_from, and_right}
 use Rattle.btr_chunk.specs.declared.mapping.MapFault.TheVariants as map_fault
-use Rattle.btr_chunk.proofs.Rule.{facts}
 use Rattle.btr_chunk.proofs.Searches.{find-first}
-use Rattle.btr_read.specs.Fate.{sought, sought_at, sought_in}
-use Rattle.btr_read.specs.Layout.{Layout}
-use Rattle.btr_read.specs.Want.{addr_of, len_of}
-use Rattle.btr_read.specs.declared.want.Want.{Want}
-use Rattle.btr_read.specs.declared.want.Want.TheVariants.{Plain}
-use Rattle.btr_scrub.specs.Judging.{ArePlaced, IsFirstRefused}
-use Rattle.btr_scrub.specs.Listed.{PassesFrom, plains_from}
-use Rattle.btr_scrub.specs.Order.{AreUpTo}
-use Rattle.btr_walk.specs.declared.fault.TreeFault.{TreeFault}
+use Rattle.btr_scrub.specs.Judging.{ArePlaced}
+use Rattle.btr_scrub.specs.Listed.{PassesFrom}
 use Rattle.btr_scrub.proofs.Positions.{bounds_of, held_between, find_at}
 use Rattle.btr_scrub.proofs.Refusing.{refused_behind, upto_more}
 
@@ -27,6 +17,7 @@ module _ (layout : Layout) (table : IsTable layout.chunks) (number : ℕ) (chunk
   pub chunk_there : (addr : ℕ) → chunk.start ≤ addr → addr < chunk.start + chunk.length → chunk_at layout.chunks addr ≡ Some chunk
   chunk_there addr from to = find-first (λ c. holds c addr) layout.chunks number chunk there (held_between chunk addr from to) (λ j c lt e. before j c lt e)
     where
+      -- no chunk before it holds the address
       before : (j : ℕ) (c : Chunk) → j < number → slice_get layout.chunks j ≡ Some c → holds c addr ≡ false
       before j c lt e = false_from_ne_true (holds c addr) (λ h.
           absurd (omega (arith, (bounds_of c addr h).1, (table.apart j number c chunk lt e there).0, from)))
@@ -43,6 +34,7 @@ module _ (layout : Layout) (table : IsTable layout.chunks) (number : ℕ) (chunk
       ∙ ap (λ b. sought_at layout want chunk (cond true (cond b (Err map_fault.Crosses) (Ok (position chunk (addr_of want)))) (Err map_fault.Unmapped))) fine in
       subst IsOk (sym at) refl
 
+  -- a sector of the chunk doesn't cross an element
   pub sector_fits : (addr : ℕ) → addr % 4096 ≡ 0 → chunk.start ≤ addr → addr + 4096 ≤ chunk.start + chunk.length → crosses chunk addr 4096 ≡ false
   sector_fits addr aligned from to =
       or_from (ltb (chunk.start + chunk.length) (addr + 4096)) (is_striped chunk.profile && ltb 65536 ((addr - chunk.start) % 65536 + 4096))
@@ -76,14 +68,17 @@ module _ (layout : Layout) where
   )
 
   module _ (old new : List Want) (from bound end : ℕ) (h : PassesFrom old from bound end new) (placed : ArePlaced layout from bound) where
+    -- the sectors that are passed have positions, one behind another up to where the last one ends
     passed : AreUpTo layout from (from + h.count * 4096) (plains_from from h.count)
     passed = plains_upto h.count from (λ i lt. placed i (h.below i lt))
 
+    -- where those behind a passed block reach an end, all do
     pub passed_apart : (to : ℕ) → AreUpTo layout end to new → AreUpTo layout from to old
     passed_apart to a =
         subst (AreUpTo layout from to) (sym h.split) (upto_more layout from (from + h.count * 4096) to (plains_from from h.count) new passed
         (subst (λ (e : ℕ). AreUpTo layout e to new) h.ends a))
 
+    -- where one behind it is refused first, it is so of all
     pub passed_refused : (fault : TreeFault) → IsFirstRefused layout end new fault → IsFirstRefused layout from old fault
     passed_refused fault a =
         subst (λ ws. IsFirstRefused layout from ws fault) (sym h.split) (refused_behind layout from (from + h.count * 4096) (plains_from from h.count) new fault

@@ -1,33 +1,19 @@
 -- Each byte of a device is of one stripe, and of one element, at most.
 use Rattle.std.proofs.Common.{◌≡◌, ℕ, ◌+◌, ◌*◌, ◌<◌, ◌≤◌, true, ◌&&◌, eqb, leb, ltb, length, Option, Some, None, IsSome, IsSomeAnd, slice_get, refl, sym, ap}
 use Rattle.std.proofs.Common.{IfSome, is_some, cond, false, Bool, ◌∙◌, subst, arith}
-use Rattle.std.proofs.lemmas.Bool.{and_from, and_parts, eq-eqb, eqb-true, le-leb, leb-true, lt-ltb, ltb-true}
-use Rattle.std.proofs.lemmas.Option.{same_Some, slice_get_within}
-use Rattle.btr_chunk.specs.Chunk.{IsChunk, stripe_length}
-use Rattle.btr_chunk.specs.Mapping.{HasPart, IsPosition, place_at, stripe_of}
-use Rattle.btr_chunk.specs.Table.{IsTable}
-use Rattle.btr_chunk.specs.declared.place.Part.{Part}
-use Rattle.btr_chunk.specs.declared.place.StripePlace.{StripePlace}
-use Rattle.btr_chunk.specs.declared.position.Elements.{Elements}
+use Rattle.btr_scrub.proofs.Common.{Chunk, Device, Elements, HasPart, IsChunk, IsOfElement, IsPosition, IsTable, Layout, LiesInChunk, Part, Row, StripePlace}
+use Rattle.btr_scrub.proofs.Common.{and_from, and_parts, device_in, eq-eqb, eqb-true, facts, le-leb, leb-true, lt-ltb, place_at, placed_part, range_in}
+use Rattle.btr_scrub.proofs.Common.{range_in_element, range_on, range_stands, same_Some, slice_get_within, stands_on, stripe_length, stripe_of}
+use Rattle.std.proofs.lemmas.Bool.{ltb-true}
 use Rattle.btr_chunk.specs.declared.stripe.Stripe.{Stripe}
-use Rattle.btr_chunk.proofs.Bytes.{placed_part}
 use Rattle.btr_chunk.proofs.Rows.{stripe_of-same}
-use Rattle.btr_chunk.proofs.Rule.{facts}
-use Rattle.btr_rack.specs.Rack.{range_in}
 use Rattle.btr_rack.specs.declared.place.Place.{Place as Range}
-use Rattle.btr_read.specs.Layout.{Layout, device_in}
-use Rattle.btr_read.specs.declared.device.Device.{Device}
 use Rattle.btr_chunk.specs.Apart.{LiesIn}
 use Rattle.btr_chunk.proofs.Apart.{stripes_apart}
-use Rattle.btr_scrub.specs.Places.{ElementsApart, IsOfElement}
+use Rattle.btr_scrub.specs.Places.{ElementsApart}
 use Rattle.btr_scrub.specs.Repair.{covers}
-use Rattle.btr_scrub_row.specs.Rows.{Row, range_in_element}
-use Rattle.btr_scrub_row.proofs.Elements.{range_stands, stands_on}
 use Rattle.btr_read.specs.Cause.{LiesIn as LiesWithin}
-use Rattle.btr_scrub.specs.WrittenRanges.{LiesInChunk}
-use Rattle.btr_read.specs.Candidates.{range_on}
 use Rattle.btr_scrub.proofs.Lists.{any_at}
-use Rattle.btr_chunk.specs.declared.chunk.Chunk.{Chunk}
 
 -- the byte's place on its device, and in its element
 pub record IsAt (layout : Layout) (row : Row) (part : Part) (slot off : ℕ) (number : ℕ) : Type 0 where
@@ -42,12 +28,14 @@ pub record IsAt (layout : Layout) (row : Row) (part : Part) (slot off : ℕ) (nu
   pub lies : LiesIn layout.chunks (record { devid = stripe.devid; offset = off }) number
       (stripe_of row.chunk.profile (length row.chunk.stripes) part (record { row = row.number; index = 0; rest = 0 }))
 
+-- a byte that a range covers lies in it
 pub covering : (slot off : ℕ) (range : Range) → covers slot off range ≡ true → (range.slot ≡ slot) × (range.off ≤ off) × (off < range.off + range.len)
 covering slot off range e =
     let a = and_parts (eqb range.slot slot && leb range.off off) (ltb off (range.off + range.len)) e in
     let b = and_parts (eqb range.slot slot) (leb range.off off) a.0 in
     (eqb-true range.slot slot b.0, leb-true range.off off b.1, ltb-true off (range.off + range.len) a.1)
 
+-- a byte in a range is covered by it
 pub covered : (slot off len i : ℕ) → off ≤ i → i < off + len → covers slot i (range_in slot off len) ≡ true
 covered slot off len i le lt =
     and_from (eqb slot slot && leb off i) (ltb i (off + len)) (and_from (eqb slot slot) (leb off i) (eq-eqb slot slot refl) (le-leb off i le))
@@ -63,6 +51,7 @@ pub record IsOnDevice (off len : ℕ) (o : Option Device) (range : Range) : Type
   pub begin : range.off ≡ off
   pub long : range.len ≡ len
 
+-- a range that stands is such a one
 pub on_device : (off len : ℕ) (o : Option Device) (range : Range) → range_on off len o ≡ Some range → IsOnDevice off len o range
 on_device off len o range e =
     let s = stands_on off len o (ap is_some e) in
@@ -91,10 +80,12 @@ in_stripe_of layout chunk k stripe device inner there given slot from to =
     by true = record { slot = slot; from = from; to = to }
     by false = tt
 
+-- a range of which something holds is there
 is_some_of : (o : Option Range) (P : Range → Type 0) → IsSomeAnd o P → IsSome o
 is_some_of None P h = absurd h
 is_some_of (Some r) P h = refl
 
+-- a byte of an element lies in a stripe of its chunk
 pub is_at : (layout : Layout) (row : Row) (part : Part) (slot off : ℕ) → IsTable layout.chunks → (e : IsOfElement layout row part slot off)
     → IsAt layout row part slot off e.number
 is_at layout row part slot off table e =
@@ -129,6 +120,7 @@ is_at layout row part slot off table e =
       };
     }
 
+-- a byte is of an element of one row at most, and of one part there
 pub elements_apart : ElementsApart
 elements_apart layout one other part also slot off table own e f =
     let a = is_at layout one part slot off table e in

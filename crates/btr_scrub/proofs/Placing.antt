@@ -1,18 +1,11 @@
 -- Whether blocks have a position.
 use Rattle.std.proofs.Common.{◌≡◌, ℕ, ◌+◌, ◌-◌, ◌%◌, ◌≤◌, Bool, true, false, cond, ◌&&◌, ltb, Some, None, Result, Ok, Err, IsOk, refl, sym, ap, ◌∙◌, subst}
-use Rattle.std.proofs.lemmas.Bool.{false≢true, or_parts, ltb-false}
-use Rattle.btr_chunk.specs.Chunk.{is_striped}
-use Rattle.btr_chunk.specs.Mapping.{crosses, elements_of, holds, position}
-use Rattle.btr_chunk.specs.Table.{chunk_at}
-use Rattle.btr_chunk.specs.declared.chunk.Chunk.{Chunk}
+use Rattle.btr_scrub.proofs.Common.{Chunk, Crosses, Elements, Fault, Layout, Target, Want, addr_of, chunk_at, crosses, false≢true, holds, is_striped, len_of}
+use Rattle.btr_scrub.proofs.Common.{ltb-false, or_parts, position, sought, sought_at, sought_in}
+use Rattle.btr_chunk.specs.Mapping.{elements_of}
 use Rattle.btr_chunk.specs.declared.mapping.MapFault.{MapFault}
 use Rattle.btr_chunk.specs.declared.mapping.MapFault.TheVariants as map_fault
-use Rattle.btr_chunk.specs.declared.position.Elements.{Elements}
-use Rattle.btr_read.specs.Candidates.{Target}
-use Rattle.btr_read.specs.Fate.{Fault, Unmapped, Crosses, sought, sought_at, sought_in}
-use Rattle.btr_read.specs.Layout.{Layout}
-use Rattle.btr_read.specs.Want.{addr_of, len_of}
-use Rattle.btr_read.specs.declared.want.Want.{Want}
+use Rattle.btr_read.specs.Fate.{Unmapped}
 use Rattle.btr_walk.specs.declared.fault.TreeFault.TheVariants as tree
 use Rattle.btr_scrub.specs.Judging.{JudgedOne}
 
@@ -32,20 +25,24 @@ ends_inside chunk addr len at e = by (holds chunk addr) (crosses chunk addr len)
     by false c fine e = cc
 
 module _ (layout : Layout) (from : ℕ) (want : Want) (addr : ℕ) (is : addr ≡ addr_of want) where
+  -- an address in no chunk is refused as one
   pub no_chunk : None ≡ chunk_at layout.chunks addr → JudgedOne layout from want (Err (tree.Unmapped addr))
   no_chunk e =
       ap (λ a. sought_in layout want (chunk_at layout.chunks a)) (sym is) ∙ ap (sought_in layout want) (sym e)
       ∙ ap (λ a. Err (Unmapped a)) (sym is)
 
   module _ (chunk : Chunk) (len : ℕ) (there : Some chunk ≡ chunk_at layout.chunks addr) (long : len ≡ len_of layout.setting want) where
+    -- a block is sought in its chunk, at the position that this has for its address
     at_chunk : (r : Result Elements MapFault) → r ≡ elements_of chunk addr len → sought layout want ≡ sought_at layout want chunk r
     at_chunk r e =
         ap (λ a. sought_in layout want (chunk_at layout.chunks a)) (sym is) ∙ ap (sought_in layout want) (sym there)
         ∙ ap (λ a. sought_at layout want chunk (elements_of chunk a (len_of layout.setting want))) (sym is)
         ∙ ap (λ n. sought_at layout want chunk (elements_of chunk addr n)) (sym long) ∙ ap (sought_at layout want chunk) (sym e)
 
+    -- so is one that its chunk doesn't map
     pub not_in_chunk : Err map_fault.Unmapped ≡ elements_of chunk addr len → JudgedOne layout from want (Err (tree.Unmapped addr))
     not_in_chunk e = at_chunk (Err map_fault.Unmapped) e ∙ ap (λ a. Err (Unmapped a)) (sym is)
 
+    -- a block that crosses an element is refused as one
     pub crosses_there : Err map_fault.Crosses ≡ elements_of chunk addr len → JudgedOne layout from want (Err (tree.Crosses addr))
     crosses_there e = at_chunk (Err map_fault.Crosses) e ∙ ap (λ a. Err (Crosses a)) (sym is)

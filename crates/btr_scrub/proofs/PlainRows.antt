@@ -1,39 +1,22 @@
 -- Plain sectors up to the start of a full stripe; where full stripes hold nothing else they are kept at once.
 use Rattle.std.proofs.Common.{◌≡◌, ℕ, zero, suc, ◌+◌, ◌-◌, ◌*◌, ◌^◌, ◌<◌, ◌≤◌, true, false, leb, ltb, List, ◌∷◌, ◌++◌, slice_get, Some, None}
 use Rattle.std.proofs.Common.{Result, Ok, refl, sym, ap, ◌∙◌, subst, inl, inr, arith, append_assoc}
-use Rattle.std.proofs.lemmas.Bool.{and_parts, ltb-true, and_from, le-leb, lt-ltb}
+use Rattle.btr_scrub.proofs.Common.{AddsAll, AreApart, Chunk, Fault, HasRooms, Images, IsTable, KeptBlocks, Layout, Plain, SiftsNext, Target, Want, addr_of}
+use Rattle.btr_scrub.proofs.Common.{and_from, and_parts, chunk_at, eq-eqb, holds, in_either, in_left, in_right, is_copy_needed, is_in_row, is_needed}
+use Rattle.btr_scrub.proofs.Common.{is_plain, is_row_needed, le-leb, leb-true, lt-ltb, mended_row, mirrors, ok_or_none, plains_from, position, sought}
+use Rattle.btr_scrub.proofs.Common.{sought_of, stripe_length, targets}
+use Rattle.std.proofs.lemmas.Bool.{ltb-true}
 use Rattle.std.proofs.lemmas.List.Elements.{filter_map-append}
-use Rattle.btr_chunk.specs.Chunk.{mirrors, stripe_length}
-use Rattle.btr_chunk.specs.Mapping.{holds, position}
-use Rattle.btr_chunk.specs.Table.{IsTable}
-use Rattle.btr_chunk.specs.declared.chunk.Chunk.{Chunk}
-use Rattle.btr_read.specs.Candidates.{Target}
-use Rattle.btr_read.specs.Fate.{Fault, is_plain, sought}
-use Rattle.btr_read.specs.Layout.{Layout}
-use Rattle.btr_read.specs.Want.{addr_of}
-use Rattle.btr_read.specs.declared.want.Want.{Want}
-use Rattle.btr_read.specs.declared.want.Want.TheVariants.{Plain}
-use Rattle.btr_read.proofs.Fates.{sought_of}
-use Rattle.btr_read.proofs.Ones.{in_either, in_left}
-use Rattle.btr_scrub_copies.specs.Writes.{Images}
-use Rattle.btr_scrub_row.specs.Mending.{mended_row}
 use Rattle.btr_scrub.specs.BlocksInRows.{In}
-use Rattle.btr_scrub.specs.Listed.{plains_from}
-use Rattle.btr_scrub.specs.Order.{AreApart, targets}
-use Rattle.btr_scrub.specs.Repair.{is_in_row, ok_or_none}
 use Rattle.btr_scrub.specs.Rowing.{StartsRow}
-use Rattle.btr_scrub.specs.Scrubbing.{HasRooms}
 use Rattle.btr_scrub.proofs.Blockwise.{all_behind, of_targets}
 use Rattle.btr_scrub.proofs.Reading.{all_below, all_plain}
-use Rattle.btr_scrub.proofs.RowNumbers.{at_row, held_row, row_fits, row_of_block, row_there, rows_rise, sought_each}
+use Rattle.btr_scrub.proofs.RowNumbers.{IsParityChunk, at_row, held_row, row_fits, row_of_block, row_there, rows_rise, sought_each}
 use Rattle.std.proofs.Common.{OnOk, Option, Err, is_none, cond, ◌||◌, eqb}
-use Rattle.std.proofs.lemmas.Bool.{eq-eqb, leb-true}
-use Rattle.btr_chunk.specs.Table.{chunk_at}
-use Rattle.btr_read.proofs.Ones.{in_right}
-use Rattle.btr_scrub.specs.Listed.{AddsAll, Kept, PassesFrom}
+use Rattle.btr_scrub.specs.Listed.{PassesFrom}
 use Rattle.btr_scrub.specs.Rowing.{AddsRun, KeepsRows, PassesRows, PassesTo}
 use Rattle.btr_scrub.specs.declared.rowed.PlainRun.{PlainRun}
-use Rattle.btr_scrub.specs.Sifting.{SiftsNext, is_copy_needed, is_needed, is_row_needed, is_troubled, row_among}
+use Rattle.btr_scrub.specs.Sifting.{is_troubled, row_among}
 use Rattle.btr_scrub.specs.declared.sifted.Sifted.{Sifted}
 use Rattle.btr_scrub.proofs.Lists.{in_filter, is_any}
 use Rattle.btr_scrub.proofs.Positions.{find_at}
@@ -70,7 +53,7 @@ passes_to chunk start end row run old mid new e p le starts some same fits = rec
 }
 
 -- they were put behind a list
-pub kept_run : {E : Type 0} (r : Result (Unit {0}) E) (chunk : Chunk) (run : PlainRun) (old new : List Want) (before after : Kept)
+pub kept_run : {E : Type 0} (r : Result (Unit {0}) E) (chunk : Chunk) (run : PlainRun) (old new : List Want) (before after : KeptBlocks)
     → PassesTo chunk old run new → OnOk r (AddsAll before after (plains_from run.addr run.count)) → OnOk r (KeepsRows chunk old new before after)
 kept_run (Err f) chunk run old new before after p adds = tt
 kept_run (Ok x) chunk run old new before after p adds = (Some run, p, adds)
@@ -85,10 +68,9 @@ pub record LieBelow (layout : Layout) (chunk : Chunk) (run : PlainRun) (row : �
   pub rises : (q : ℕ) → ((t : Target) → In t (targets layout left) → t.chunk ≡ chunk → q ≤ t.at.row) → q ≤ row
 
 -- so do those that reach just to its start
-pub lie_below : (layout : Layout) (table : IsTable layout.chunks) (number : ℕ) (chunk : Chunk) (there : slice_get layout.chunks number ≡ Some chunk)
-    (parity : mirrors chunk ≡ None) (end : ℕ) (le : chunk.start ≤ end) (left new : List Want) (all : AreApart layout end left) (run : PlainRun)
-    (p : PassesTo chunk left run new) → LieBelow layout chunk run p.row left new
-lie_below layout table number chunk there parity end le left new all run p = record {
+pub lie_below : {layout : Layout} {number : ℕ} {chunk : Chunk} (s : IsParityChunk layout number chunk) (end : ℕ) (le : chunk.start ≤ end)
+    (left new : List Want) (all : AreApart layout end left) (run : PlainRun) (p : PassesTo chunk left run new) → LieBelow layout chunk run p.row left new
+lie_below {layout} {chunk} s end le left new all run p = record {
   below = λ t i.
       let w = of_targets layout t past i in
       let e = each w.0 w.1 in
@@ -97,12 +79,12 @@ lie_below layout table number chunk there parity end le left new all run p = rec
   behind = behind;
   later = λ t i mine.
       let w = of_targets layout t new i in
-      let at = row_of_block layout table number chunk there parity w.0 t w.2 mine in
+      let at = row_of_block s w.0 t w.2 mine in
       let ge = all_behind layout (run.addr + run.count * 4096) new behind w.0 w.1 in
-      let rise = rows_rise layout table number chunk there parity p.start (addr_of w.0) (omega (arith, p.reaches, ge)) in
+      let rise = rows_rise s p.start (addr_of w.0) (omega (arith, p.reaches, ge)) in
       omega (arith, rise, at.1, begins.1);
   from = let ge = leb-true chunk.start p.start inside.0 in omega (arith, ge, p.reaches);
-  fits = let fits = row_fits layout table number chunk there parity p.start begins.0 in omega (arith, fits, begins.1);
+  fits = let fits = row_fits s p.start begins.0 in omega (arith, fits, begins.1);
   rises = λ q ahead.
       let first = first_plain run.count run.addr p.some in
       let w = each (Plain run.addr) first in
@@ -111,43 +93,50 @@ lie_below layout table number chunk there parity end le left new all run p = rec
       omega (arith, le, w.3);
 }
   where
+    -- the plain sectors that are passed
     past : List Want
     past = plains_from run.addr run.count
 
+    -- they are apart, and so are those behind them
     apart : AreApart layout end (past ++ new)
     apart = subst (AreApart layout end) p.split all
 
+    -- the start lies in the chunk, in that row
     begins : (holds chunk p.start ≡ true) × ((position chunk p.start).row ≡ p.row)
     begins = row_there chunk p.start p.row p.starts.here
 
+    -- it lies between the chunk's ends
     inside : (leb chunk.start p.start ≡ true) × (ltb p.start (chunk.start + chunk.length) ≡ true)
     inside = and_parts (leb chunk.start p.start) (ltb p.start (chunk.start + chunk.length)) begins.0
 
     -- each lies in the chunk, in a row below
     each : (w : Want) → In w past → (t : Target) × (sought layout w ≡ Ok t) × (t.chunk ≡ chunk) × (t.at.row < p.row)
     each w i =
-        let s = sought_each layout end (past ++ new) apart w (in_left w past new i) in
+        let e = sought_each layout end (past ++ new) apart w (in_left w past new i) in
         let lt = all_below run.count run.addr p.start w p.below i in
         let ge = all_behind layout end (past ++ new) apart w (in_left w past new i) in
         let to = ltb-true p.start (chunk.start + chunk.length) inside.1 in
         let held : holds chunk (addr_of w) ≡ true = and_from (leb chunk.start (addr_of w)) (ltb (addr_of w) (chunk.start + chunk.length))
         (le-leb chunk.start (addr_of w) (omega (arith, le, ge))) (lt-ltb (addr_of w) (chunk.start + chunk.length) (omega (arith, lt, to))) in
-        let at = at_row layout table number chunk there parity w s.0 (position chunk (addr_of w)).row s.1 (held_row chunk (addr_of w) held) in
-        let rise = rows_rise layout table number chunk there parity (addr_of w) (p.start - 1) (omega (arith, lt)) in
+        let at = at_row s w e.0 (position chunk (addr_of w)).row e.1 (held_row chunk (addr_of w) held) in
+        let rise = rows_rise s (addr_of w) (p.start - 1) (omega (arith, lt)) in
         let last = row_there chunk (p.start - 1) p.starts.last p.starts.before in
-        (s.0, s.1, at.0, omega (arith, at.1, rise, last.1, p.starts.rises))
+        (e.0, e.1, at.0, omega (arith, at.1, rise, last.1, p.starts.rises))
 
     same_ok : (x y : Target) → ◌≡◌ {A = Result Target Fault} (Ok x) (Ok y) → x ≡ y
     same_ok x y e = cc
 
+    -- those behind them are apart from where the last one ends
     behind : AreApart layout (run.addr + run.count * 4096) new
     behind = plains_behind layout run.count run.addr end new p.some apart
 
 module _ (layout : Layout) (table : IsTable layout.chunks) (chunk : Chunk) (parity : mirrors chunk ≡ None) (row : ℕ) (run : PlainRun)
     (left new : List Want) (split : left ≡ plains_from run.addr run.count ++ new) (lie : LieBelow layout chunk run row left new) where
+  -- the sectors of the run that is passed
   abbrev past : List Want
   past = plains_from run.addr run.count
 
+  -- each of them is needed, as its row has a sector without a checksum
   needed : (images : Images) (t : Target) → In t (targets layout past) → is_needed images layout (targets layout past) t ≡ true
   needed images t i =
       let is = lie.below t i in
@@ -160,24 +149,26 @@ module _ (layout : Layout) (table : IsTable layout.chunks) (chunk : Chunk) (pari
 
   module _ (held : Option Images) (want : Want) (old : List Want) (x y z : Sifted) (s : SiftsNext layout held want old left x y)
       (adds : AddsAll y.kept z.kept past) (sound : z.sound ≡ y.sound) (nodesize : z.nodesize ≡ y.nodesize) (room : z.room ≡ y.room) where
+    -- the want, and those that were sifted with it
     abbrev mine : List Want
     mine = want ∷ s.more
 
+    -- the blocks of two lists of wants are those of both
     both : (xs ys : List Want) → targets layout (xs ++ ys) ≡ targets layout xs ++ targets layout ys
     both xs ys = filter_map-append (λ w. ok_or_none (sought layout w)) xs ys
 
+    -- what is passed, or lies behind it, is of what was left
     in_all : (t : Target) → In t (targets layout past ++ targets layout new) → In t (targets layout left)
     in_all t i = subst (λ ws. In t (targets layout ws)) (sym split) (subst (In t) (sym (both past new)) i)
 
+    -- so they are kept with the row before them
     pub next_kept : SiftsNext layout held want old new x z
     next_kept = record {
       more = s.more ++ past;
       split = s.split ∙ ap (λ ws. s.more ++ ws) split ∙ sym (append_assoc s.more past new);
-      sifts = sifts_then layout held table mine past x y z
-          (λ t u i j. s.rows t u i (in_all u (in_left u (targets layout past) (targets layout new) j))) s.sifts
+      sifts = sifts_then layout held table mine past x y z (λ t u i j. s.rows t u i (in_all u (in_left u (targets layout past) (targets layout new) j))) s.sifts
           (sifts_kept layout held past y z s.sifts.can
-          (tell held (λ images. (t : Target) → In t (targets layout past) → is_needed images layout (targets layout past) t ≡ true)
-          (λ images e. needed images))
+          (tell held (λ images. (t : Target) → In t (targets layout past) → is_needed images layout (targets layout past) t ≡ true) (λ images e. needed images))
           adds sound nodesize (subst (λ r. HasRooms layout r.buffer) (sym room) s.sifts.can.rooms));
       rows = λ t u i j same none eq. elim (in_either t (targets layout mine) (targets layout past) (subst (In t) (both mine past) i)) [
         | inl k ↦ s.rows t u k (in_all u (in_right u (targets layout past) (targets layout new) j)) same none eq
@@ -188,13 +179,17 @@ module _ (layout : Layout) (table : IsTable layout.chunks) (chunk : Chunk) (pari
 -- a row was sifted, and the plain ones behind it were kept
 pub rows_kept : (layout : Layout) (table : IsTable layout.chunks) (held : Option Images) (want : Want) (old mid new : List Want) (chunk : Chunk)
     (x y z : Sifted) → chunk_at layout.chunks (addr_of want) ≡ Some chunk → mirrors chunk ≡ None → AreApart layout 0 (want ∷ old)
-    → SiftsNext layout held want old mid x y → z ≡ record y { kept = z.kept } → KeepsRows chunk mid new y.kept z.kept
-    → SiftsNext layout held want old new x z
+    → SiftsNext layout held want old mid x y → z ≡ record y { kept = z.kept } → KeepsRows chunk mid new y.kept z.kept → SiftsNext layout held want old new x z
 rows_kept layout table held want old mid new chunk x y z at parity apart s is keeps = by keeps.0 keeps.1 keeps.2
   where
+    -- the chunk is one of the table, and holds the address
     there : (i : ℕ) × (slice_get layout.chunks i ≡ Some chunk) × (holds chunk (addr_of want) ≡ true)
     there = find_at (λ (c : Chunk). holds c (addr_of want)) layout.chunks chunk at
 
+    of : IsParityChunk layout there.0 chunk
+    of = record { table = table; there = there.1; parity = parity }
+
+    -- the wants are apart from the chunk's start on
     from_start : AreApart layout chunk.start (want ∷ old)
     from_start = (
       leb-true chunk.start (addr_of want) (and_parts (leb chunk.start (addr_of want)) (ltb (addr_of want) (chunk.start + chunk.length)) there.2).0,
@@ -208,6 +203,5 @@ rows_kept layout table held want old mid new chunk x y z at parity apart s is ke
         (subst (λ (w : Sifted). SiftsNext layout held want old mid x w) (ap (λ k. record y { kept = k }) (sym same) ∙ sym is) s)
     by (Some run) p adds =
         let tail = tail_apart layout chunk.start (want ∷ s.more) mid (subst (λ ws. AreApart layout chunk.start (want ∷ ws)) s.split from_start) in
-        next_kept layout table chunk parity p.row run mid new p.split
-        (lie_below layout table there.0 chunk there.1 parity tail.0 tail.1 mid new tail.2 run p) held want old x y z s
+        next_kept layout table chunk parity p.row run mid new p.split (lie_below of tail.0 tail.1 mid new tail.2 run p) held want old x y z s
         adds (ap (λ (w : Sifted). w.sound) is) (ap (λ (w : Sifted). w.nodesize) is) (ap (λ (w : Sifted). w.room) is)

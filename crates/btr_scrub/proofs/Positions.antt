@@ -1,48 +1,38 @@
 -- Where blocks with copies lie.
 use Rattle.std.proofs.Common.{◌≡◌, ℕ, zero, suc, ◌+◌, ◌-◌, ◌*◌, ◌/◌, ◌%◌, ◌<◌, ◌≤◌, Bool, true, false, cond, ◌&&◌, ◌||◌, leb, ltb, List, [], ◌∷◌, length}
 use Rattle.std.proofs.Common.{get_or, slice_get, Option, Some, None, IsSomeAnd, Ok, Err, refl, sym, ap, ◌∙◌, subst, arith}
-use Rattle.std.proofs.lemmas.Bool.{and_from, and_parts, leb-true, ltb-true, le-leb, lt-ltb, or_parts, ltb-false}
-use Rattle.std.proofs.lemmas.Option.{same_Some, slice_get_within}
-use Rattle.std.specs.List.{Any, cons_option, find}
+use Rattle.btr_scrub.proofs.Common.{Chunk, Device, Elements, HasPart, HaveOwnSlots, IsChunk, IsPosition, IsSought, IsTable, Layout, LiesInChunk, LiesInStripe}
+use Rattle.btr_scrub.proofs.Common.{Mirror, Part, Profile, Raid5, Raid6, StripePlace, Target, Want, addr_of, alone, and_from, and_parts, chunk_at}
+use Rattle.btr_scrub.proofs.Common.{cons_option, crosses, data_count, device_in, holds, is_striped, le-leb, leb-true, len_of, lt-ltb, ltb-false, mirror_count}
+use Rattle.btr_scrub.proofs.Common.{or_parts, place_at, placed_part, position, range_of, same_Some, size_of, slice_get_within, sought, sought_at, sought_in}
+use Rattle.btr_scrub.proofs.Common.{stripe_length, stripe_of}
+use Rattle.std.proofs.lemmas.Bool.{ltb-true}
+use Rattle.std.specs.List.{Any, find}
 use Rattle.btr_chunk.specs.Apart.{IsOfCopy}
-use Rattle.btr_chunk.specs.Chunk.{IsChunk, data_count, is_striped, mirror_count, stripe_length}
-use Rattle.btr_chunk.specs.Mapping.{HasPart, crosses, data_part, holds, place_at, place_on, position, stripe_of, IsPosition}
-use Rattle.btr_chunk.specs.Table.{IsTable, chunk_at}
-use Rattle.btr_chunk.specs.declared.chunk.Chunk.{Chunk}
+use Rattle.btr_chunk.specs.Mapping.{data_part, place_on}
 use Rattle.btr_chunk.specs.declared.mapping.MapFault.TheVariants as map_fault
-use Rattle.btr_chunk.specs.declared.place.Part.{Part}
-use Rattle.btr_chunk.specs.declared.place.Part.TheVariants.{Mirror}
-use Rattle.btr_chunk.specs.declared.place.StripePlace.{StripePlace}
-use Rattle.btr_chunk.specs.declared.position.Elements.{Elements}
-use Rattle.btr_chunk.specs.declared.profile.Profile.{Profile}
-use Rattle.btr_chunk.specs.declared.profile.Profile.TheVariants.{Single, Dup, Raid0, Raid1, Raid1c3, Raid1c4, Raid10, Raid5, Raid6}
+use Rattle.btr_chunk.specs.declared.profile.Profile.TheVariants.{Single, Dup, Raid0, Raid1, Raid1c3, Raid1c4, Raid10}
 use Rattle.btr_chunk.specs.declared.stripe.Stripe.{Stripe}
 use Rattle.btr_chunk.proofs.Apart.{copies_apart}
-use Rattle.btr_chunk.proofs.Bytes.{IsPosition-position, placed_part}
+use Rattle.btr_chunk.proofs.Bytes.{IsPosition-position}
 use Rattle.btr_chunk.proofs.Rule.{data_count-mirrored, reaches-rows}
 use Rattle.btr_rack.specs.declared.place.Place.{Place as Range}
-use Rattle.btr_read.specs.Candidates.{Target, range_of, size_of}
 use Rattle.btr_read.specs.Cause.{LiesIn}
-use Rattle.btr_read.specs.Fate.{sought, sought_at, sought_in}
-use Rattle.btr_read.specs.Layout.{HaveOwnSlots, Layout, device_in}
 use Rattle.btr_read.specs.Mirror.{HasMirror}
-use Rattle.btr_read.specs.Want.{addr_of, len_of}
-use Rattle.btr_read.specs.declared.device.Device.{Device}
-use Rattle.btr_read.specs.declared.want.Want.{Want}
 use Rattle.btr_scrub_copies.specs.Mending.{IsOfCopy as IsOfMirror}
-use Rattle.btr_scrub.specs.WrittenRanges.{LiesInChunk, LiesInStripe, alone}
-use Rattle.btr_scrub.specs.Order.{IsSought}
 use Rattle.btr_scrub.specs.Repair.{covers}
 use Rattle.btr_scrub.proofs.Places.{covering, on_device, in_stripe_of}
 use Rattle.btr_scrub.proofs.Lists.{any_at}
 
 -- ---- addresses of a chunk
 
+-- an address that a chunk has lies between its ends
 pub bounds_of : (chunk : Chunk) (addr : ℕ) → holds chunk addr ≡ true → (chunk.start ≤ addr) × (addr < chunk.start + chunk.length)
 bounds_of chunk addr held =
     let h = and_parts (leb chunk.start addr) (ltb addr (chunk.start + chunk.length)) held in
     (leb-true chunk.start addr h.0, ltb-true addr (chunk.start + chunk.length) h.1)
 
+-- an address between its ends is one that it has
 pub held_between : (chunk : Chunk) (addr : ℕ) → chunk.start ≤ addr → addr < chunk.start + chunk.length → holds chunk addr ≡ true
 held_between chunk addr from to =
     and_from (leb chunk.start addr) (ltb addr (chunk.start + chunk.length)) (le-leb chunk.start addr from) (lt-ltb addr (chunk.start + chunk.length) to)
@@ -60,6 +50,7 @@ find_at p (y ∷ xs) x e = by (p y) refl e (find_at p xs x)
     by false t e rest = let r = rest e in (suc r.0, r.1, r.2)
 
 module _ (layout : Layout) (want : Want) (t : Target) where
+  -- what is sought in a chunk that holds its address has the position of its address
   in_chunk : (chunk : Chunk) → (i : ℕ) × (slice_get layout.chunks i ≡ Some chunk) × (holds chunk (addr_of want) ≡ true)
       → sought_in layout want (Some chunk) ≡ Ok t → IsSought layout t
   in_chunk chunk place e = by (holds chunk (addr_of want)) (crosses chunk (addr_of want) (len_of layout.setting want)) refl e
@@ -81,6 +72,7 @@ module _ (layout : Layout) (want : Want) (t : Target) where
           })
       by false c fine e = cc
 
+  -- so has what is sought in the chunk that is found, if one is
   in_some : (o : Option Chunk) → chunk_at layout.chunks (addr_of want) ≡ o → sought_in layout want o ≡ Ok t → IsSought layout t
   in_some None at e = cc
   in_some (Some chunk) at e = in_chunk chunk (find_at (λ c. holds c (addr_of want)) layout.chunks chunk at) e
@@ -89,6 +81,7 @@ module _ (layout : Layout) (want : Want) (t : Target) where
   pub is_sought : sought layout want ≡ Ok t → IsSought layout t
   is_sought e = in_some (chunk_at layout.chunks (addr_of want)) refl e
 
+-- what is sought has a position in its chunk
 pub position_is : (layout : Layout) (t : Target) → IsTable layout.chunks → IsSought layout t → IsPosition t.chunk t.at
 position_is layout t table is = subst (IsPosition t.chunk) (sym is.at) (IsPosition-position t.chunk (addr_of t.want)
     (table.sound is.number t.chunk is.there).0 is.held)
@@ -125,6 +118,7 @@ record IsBehind (at bt : Elements) (d : ℕ) : Type 0 where
   index : bt.index ≡ at.index
   rest : bt.rest ≡ at.rest + d
 
+-- bytes that don't reach the next element lie in one row and slice
 rows_behind : (o d k : ℕ) → o % 65536 + d < 65536 → IsBehind (record { row = o / 65536 / k; index = o / 65536 % k; rest = o % 65536 })
     (record { row = (o + d) / 65536 / k; index = (o + d) / 65536 % k; rest = (o + d) % 65536 }) d
 rows_behind o d k lt =
@@ -135,10 +129,12 @@ rows_behind o d k lt =
 abbrev place_in : Bool → ℕ → ℕ → Elements
 place_in b k o = cond b (record { row = o / 65536 / k; index = o / 65536 % k; rest = o % 65536 }) (record { row = 0; index = 0; rest = o })
 
+-- so it is with the bytes of a block that crosses no element
 position_behind : (chunk : Chunk) (addr len d : ℕ) → chunk.start ≤ addr → crosses chunk addr len ≡ false → d < len
     → IsBehind (position chunk addr) (position chunk (addr + d)) d
 position_behind chunk addr len d from fine lt = by (is_striped chunk.profile) fine
   where
+    -- bytes behind an address are as far behind its offset in the chunk
     offset : addr + d - chunk.start ≡ addr - chunk.start + d
     offset = omega (arith, from)
 
@@ -183,6 +179,7 @@ of_range layout t copy slot off range is has e c =
       offset = omega (arith, at.1, d.begin);
     }
 
+-- a byte that the range of a copy covers is a byte of this copy
 pub copy_of_range : (layout : Layout) (t : Target) (copy slot off : ℕ) (range : Range) (is : IsSought layout t) (has : HasMirror copy t)
     (e : range_of t (Mirror copy) ≡ Some range) (c : covers slot off range ≡ true) → (of_range layout t copy slot off range is has e c).copy ≡ copy
 unfolding of_range
@@ -195,8 +192,7 @@ is_of_copy layout t slot off table is b =
     let addr = addr_of t.want in
     let sound = (table.sound is.number t.chunk is.there).0 in
     let from = (bounds_of t.chunk addr is.held).0 in
-    let ends : addr + size_of t ≤ t.chunk.start + t.chunk.length =
-    ltb-false (t.chunk.start + t.chunk.length) (addr + size_of t)
+    let ends : addr + size_of t ≤ t.chunk.start + t.chunk.length = ltb-false (t.chunk.start + t.chunk.length) (addr + size_of t)
     (or_parts (ltb (t.chunk.start + t.chunk.length) (addr + size_of t))
     (is_striped t.chunk.profile && ltb 65536 ((addr - t.chunk.start) % 65536 + size_of t)) is.uncrossed).0 in
     let there = held_between t.chunk (addr + b.behind) (omega (arith, from)) (omega (arith, ends, b.below)) in
@@ -234,6 +230,7 @@ pub record Shares (t u : Target) : Type 0 where
   pub under : other < size_of u
   pub same : addr_of t.want + one ≡ addr_of u.want + other
 
+-- blocks that have a byte of a device in common overlap
 pub shares : (layout : Layout) (t u : Target) (slot off : ℕ) → IsTable layout.chunks → HaveOwnSlots layout.devices → IsSought layout t
     → IsSought layout u → IsCopyByte layout t slot off → IsCopyByte layout u slot off → Shares t u
 shares layout t u slot off table own is us b c =
@@ -241,8 +238,7 @@ shares layout t u slot off table own is us b c =
     let q = place_at u.chunk (Mirror c.copy) u.at in
     let devid : p.devid ≡ q.devid = own p.devid q.devid b.device c.device b.given c.given (b.same_slot ∙ sym c.same_slot) in
     let both = copies_apart layout.chunks (record { devid = p.devid; offset = off }) is.number us.number b.copy c.copy (addr_of t.want + b.behind)
-    (addr_of u.want + c.behind) table
-    (is_of_copy layout t slot off table is b)
+    (addr_of u.want + c.behind) table (is_of_copy layout t slot off table is b)
     (subst (λ d. IsOfCopy layout.chunks (record { devid = d; offset = off }) us.number c.copy (addr_of u.want + c.behind)) (sym devid)
     (is_of_copy layout u slot off table us c)) in
     record { one = b.behind; other = c.behind; below = b.below; under = c.below; same = both.2 }
@@ -258,13 +254,16 @@ pub record OnStripe (t : Target) (part : Part) : Type 0 where
   pub begin : stripe.offset ≤ (place_at t.chunk part t.at).offset
   pub end : (place_at t.chunk part t.at).offset + size_of t ≤ stripe.offset + stripe_length t.chunk
 
+-- a block that crosses no element ends within the chunk's stripes
 reaches : (chunk : Chunk) (addr len : ℕ) → IsChunk chunk → holds chunk addr ≡ true → crosses chunk addr len ≡ false
     → (position chunk addr).row * 65536 + (position chunk addr).rest + len ≤ stripe_length chunk
 reaches chunk addr len sound held fine = by (is_striped chunk.profile) refl fine
   where
+    -- the address isn't before the chunk
     from : chunk.start ≤ addr
     from = (bounds_of chunk addr held).0
 
+    -- nor behind it
     below : addr < chunk.start + chunk.length
     below = (bounds_of chunk addr held).1
 
@@ -284,6 +283,7 @@ reaches chunk addr len sound held fine = by (is_striped chunk.profile) refl fine
         let whole : chunk.length / k ≡ chunk.length = ap (λ n. chunk.length / n) one ∙ omega arith in
         omega (arith, from, ends, whole)
 
+-- each part of a block stands on a stripe of its chunk
 pub on_stripe : (layout : Layout) (t : Target) (part : Part) → IsTable layout.chunks → IsSought layout t
     → HasPart t.chunk.profile (length t.chunk.stripes) part → OnStripe t part
 on_stripe layout t part table is has =
@@ -305,8 +305,7 @@ on_stripe layout t part table is has =
 
 -- a range in a block's part lies in a stripe of its chunk
 pub part_in_chunk : (layout : Layout) (t : Target) (part : Part) (range inner : Range) → IsTable layout.chunks → IsSought layout t
-    → HasPart t.chunk.profile (length t.chunk.stripes) part
-    → range_of t part ≡ Some range → LiesIn inner range → LiesInChunk layout t.chunk inner
+    → HasPart t.chunk.profile (length t.chunk.stripes) part → range_of t part ≡ Some range → LiesIn inner range → LiesInChunk layout t.chunk inner
 part_in_chunk layout t part range inner table is has e lies =
     let on = on_stripe layout t part table is has in
     let place = place_at t.chunk part t.at in
@@ -317,8 +316,7 @@ part_in_chunk layout t part range inner table is has e lies =
 
 -- so it lies in a stripe of the table
 pub in_stripe : (layout : Layout) (t : Target) (part : Part) (range inner : Range) → IsTable layout.chunks → IsSought layout t
-    → HasPart t.chunk.profile (length t.chunk.stripes) part
-    → range_of t part ≡ Some range → LiesIn inner range → LiesInStripe layout inner
+    → HasPart t.chunk.profile (length t.chunk.stripes) part → range_of t part ≡ Some range → LiesIn inner range → LiesInStripe layout inner
 in_stripe layout t part range inner table is has e lies =
     any_at (λ chunk. LiesInChunk layout chunk inner) layout.chunks is.number t.chunk
     (slice_get_within layout.chunks is.number t.chunk is.there) is.there (part_in_chunk layout t part range inner table is has e lies)
@@ -327,6 +325,7 @@ in_stripe layout t part range inner table is has e lies =
 pub lies_alone : (layout : Layout) (chunk : Chunk) (range : Range) → LiesInChunk layout chunk range → LiesInStripe (alone layout chunk) range
 lies_alone layout chunk range h = any_at (λ c. LiesInChunk (alone layout chunk) c range) (chunk ∷ []) 0 chunk (omega arith) refl h
 
+-- what lies in a stripe of a chunk alone lies in this chunk
 pub alone_lies : (layout : Layout) (chunk : Chunk) (range : Range) → LiesInStripe (alone layout chunk) range → LiesInChunk layout chunk range
 alone_lies layout chunk range any = at any.0 any.1 any.2 any.3 any.4
   where
@@ -349,15 +348,7 @@ copy_in_stripe layout t range table is h = lies_alone layout t.chunk range (by (
 
 -- ---- chunks with rows
 
--- the position of an address in a chunk with rows, and how far a block reaches in its element
-pub striped_position : (chunk : Chunk) (addr : ℕ) → is_striped chunk.profile ≡ true
-    → position chunk addr ≡ record {
-      row = (addr - chunk.start) / 65536 / data_count chunk.profile (length chunk.stripes);
-      index = (addr - chunk.start) / 65536 % data_count chunk.profile (length chunk.stripes);
-      rest = (addr - chunk.start) % 65536;
-    }
-striped_position chunk addr striped = rw striped refl
-
+-- a block that crosses no element ends in its own
 pub striped_fits : (chunk : Chunk) (addr len : ℕ) → is_striped chunk.profile ≡ true → crosses chunk addr len ≡ false → (addr - chunk.start) % 65536
     + len ≤ 65536
 striped_fits chunk addr len striped fine =

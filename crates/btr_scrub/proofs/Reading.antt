@@ -3,22 +3,17 @@ use Rattle.std.proofs.Common.{◌≡◌, ◌≢◌, ℕ, zero, suc, ◌+◌, ◌
 use Rattle.std.proofs.Common.{true, refl, sym}
 use Rattle.std.proofs.Common.{ap, ◌∙◌, append_assoc, subst, inl, inr, arith}
 use Rattle.std.proofs.Math.Nat.{suc-mul}
-use Rattle.std.proofs.lemmas.Bool.{cases_lt}
-use Rattle.std.proofs.lemmas.List.{drop-drop, length-drop}
-use Rattle.btr_base.specs.Sum.{sum_size, stored_sum}
-use Rattle.btr_base.specs.declared.kind.SumKind.{SumKind}
+use Rattle.btr_scrub.proofs.Common.{KeptBlocks, Plain, Sector, SumKind, Want, addr_of, cases_lt, is_plain, length-drop, plains_from, stored_sum, sum_size}
+use Rattle.std.proofs.lemmas.List.{drop-drop}
 use Rattle.btr_base.specs.declared.kind.SumKind.TheVariants.{Crc32c, Sha256, Xxh64}
-use Rattle.btr_read.specs.Fate.{is_plain}
-use Rattle.btr_read.specs.Want.{addr_of}
-use Rattle.btr_read.specs.declared.want.Want.{Want}
-use Rattle.btr_read.specs.declared.want.Want.TheVariants.{Plain, Tree, Sector}
+use Rattle.btr_read.specs.declared.want.Want.TheVariants.{Tree}
 use Rattle.btr_scrub.specs.declared.run.Run.{Run}
 use Rattle.btr_scrub.specs.declared.run.RunKind.{RunKind}
 use Rattle.btr_scrub.specs.declared.run.RunKind.TheVariants.{TreeBlock, Sectors, Unsummed}
 use Rattle.btr_scrub.specs.declared.run.TreeMark.{TreeMark}
 use Rattle.btr_scrub.specs.BlocksInRows.{In}
-use Rattle.btr_scrub.specs.Listed.{AreRuns, GivesNext, IsNextPlain, IsPast, PassesFrom, PassesPlain, IsPlace, IsRun, Kept, StandsIn, all_sectors}
-use Rattle.btr_scrub.specs.Listed.{all_trees, first_past, left_in, plains_from, plains_of}
+use Rattle.btr_scrub.specs.Listed.{AreRuns, GivesNext, IsNextPlain, IsPast, PassesFrom, PassesPlain, IsPlace, IsRun, StandsIn, all_sectors}
+use Rattle.btr_scrub.specs.Listed.{all_trees, first_past, left_in, plains_of}
 use Rattle.btr_scrub.specs.Listed.{run_left, run_wants, sectors_from, sectors_of, sums_past, trees_of, wants_left, wants_of}
 use Rattle.btr_scrub.proofs.Listing.{times_sum, plains_both}
 use Rattle.btr_scrub.proofs.Firsts.{drop_one}
@@ -31,6 +26,7 @@ drop_none (x ∷ xs) zero e = cc
 drop_none (x ∷ xs) (suc i) e = drop_none xs i e
 
 module _ (kind : SumKind) where
+  -- where nothing of a run is past, all of it is left
   run_start : (addr : ℕ) (k : RunKind) (sums : List ℕ) (ms : List TreeMark) → run_left kind addr k 0 sums ms ≡ run_wants kind addr k sums ms
   run_start addr TreeBlock sums ms = refl
   run_start addr (Sectors n) sums ms =
@@ -51,6 +47,7 @@ module _ (kind : SumKind) where
       (run_start run.addr run.kind sums ms)
       ∙ ap (λ n. run_wants kind run.addr run.kind sums ms ++ wants_of kind runs (drop (n * sum_size kind) sums) (drop (trees_of run.kind) ms)) all
 
+  -- where nothing is past, something of the first run is left, if there is one
   past_none : (runs : List Run) → AreRuns runs → IsPast runs 0
   past_none [] h = refl
   past_none (run ∷ runs) h = by run.addr run.kind h.0
@@ -70,6 +67,7 @@ module _ (kind : SumKind) where
       by (Sectors n) = refl
       by (Unsummed n) = refl
 
+  -- so no bytes of checksums are past
   none_past : (runs : List Run) → first_past runs 0 * sum_size kind ≡ 0
   none_past runs = ap (λ n. n * sum_size kind) (first_none runs) ∙ omega arith
 
@@ -105,6 +103,7 @@ module _ (kind : SumKind) where
 
     -- it has so many sectors
     module _ (n : ℕ) (ms : List TreeMark) (e : run.kind ≡ Sectors n) (p : IsPlace kind (run ∷ runs) past sums ms) where
+      -- one of its sectors is left at least
       pub one_left : past + 1 ≤ n
       one_left =
           let a : sectors_of run.kind ≡ n = ap sectors_of e in
@@ -112,9 +111,11 @@ module _ (kind : SumKind) where
           let c : plains_of run.kind ≡ 0 = ap plains_of e in
           omega (arith, a, b, c, p.is_past)
 
+      -- the address of the next one is below 2^64
       pub in_range : run.addr + past * 4096 < 2 ^ 64
       in_range = let h = subst (IsRun run.addr) e p.runs_fit.0 in omega (arith, one_left, h.1)
 
+      -- the checksums that are left, and those that are past, are those of the run and of the runs behind it
       counted : length sums + past * sum_size kind ≡ n * sum_size kind + all_sectors runs * sum_size kind
       counted = ap (λ k. length sums + sums_past k past * sum_size kind) (sym e) ∙ p.sums_fit
           ∙ ap (λ k. (sectors_of k + all_sectors runs) * sum_size kind) e ∙ times_sum n (all_sectors runs) (sum_size kind)
@@ -126,9 +127,11 @@ module _ (kind : SumKind) where
           let is : n ≡ past + suc (n - (past + 1)) = omega (arith, one_left) in
           ap (λ m. m * size) is ∙ times_sum past (suc (n - (past + 1))) size ∙ ap (λ m. past * size + m) (suc-mul (n - (past + 1)) size ∙ omega arith)
 
+      -- the bytes of a checksum are left
       pub sum_left : sum_size kind ≤ length sums
       sum_left = omega (arith, counted, split)
 
+      -- what is left is the next sector, the others of the run, and what the runs behind it have
       left_is : wants_left kind (run ∷ runs) past sums ms ≡ Sector (run.addr + past * 4096) (stored_sum kind sums) ∷
           (sectors_from kind (run.addr + (past + 1) * 4096) (n - (past + 1)) (drop (sum_size kind) sums)
           ++ wants_of kind runs (drop ((n - (past + 1)) * sum_size kind) (drop (sum_size kind) sums)) ms)
@@ -146,6 +149,7 @@ module _ (kind : SumKind) where
           (sectors_from kind (run.addr + (past + 1) * 4096) m (drop size sums) ++ wants_of kind runs q ms))
           (ap (λ q. drop q sums) bytes ∙ sym (drop-drop (m * size) size sums))
 
+      -- the marks that are left are those of the runs behind it
       marks_left : length ms ≡ all_trees runs
       marks_left = let b : trees_of run.kind ≡ 0 = ap trees_of e in omega (arith, b, p.marks_fit)
 
@@ -198,6 +202,7 @@ module _ (kind : SumKind) where
 -- the first run has sectors without a checksum, of which d more are past
 module _ (kind : SumKind) (run : Run) (runs : List Run) (past : ℕ) (sums : List ℕ) (n : ℕ) (ms : List TreeMark) (e : run.kind ≡ Unsummed n)
     (p : IsPlace kind (run ∷ runs) past sums ms) where
+  -- one of its sectors is left at least, all without a checksum
   plain_left : past + 1 ≤ n
   plain_left =
       let a : sectors_of run.kind ≡ 0 = ap sectors_of e in
@@ -205,12 +210,15 @@ module _ (kind : SumKind) (run : Run) (runs : List Run) (past : ℕ) (sums : Lis
       let c : plains_of run.kind ≡ n = ap plains_of e in
       omega (arith, a, b, c, p.is_past)
 
+  -- the address of the next plain one is below 2^64
   plain_in_range : run.addr + past * 4096 < 2 ^ 64
   plain_in_range = let h = subst (IsRun run.addr) e p.runs_fit.0 in omega (arith, plain_left, h.1)
 
+  -- so is the one where the run ends
   plain_ends : run.addr + n * 4096 < 2 ^ 64
   plain_ends = (subst (IsRun run.addr) e p.runs_fit.0).1
 
+  -- the checksums that are left are those of the runs behind it
   sums_left : length sums ≡ all_sectors runs * sum_size kind
   sums_left =
       let size = sum_size kind in
@@ -218,9 +226,11 @@ module _ (kind : SumKind) (run : Run) (runs : List Run) (past : ℕ) (sums : Lis
       let all : all_sectors (run ∷ runs) ≡ all_sectors runs = ap (λ k. sectors_of k + all_sectors runs) e ∙ omega arith in
       omega (arith, p.sums_fit, none, ap (λ k. k * size) all)
 
+  -- so are the marks
   marks_kept : length ms ≡ all_trees runs
   marks_kept = let b : trees_of run.kind ≡ 0 = ap trees_of e in omega (arith, b, p.marks_fit)
 
+  -- the runs behind it get all of them
   behind_run : wants_of kind runs (drop ((sectors_of run.kind - past) * sum_size kind) sums) (drop (trees_of run.kind) ms) ≡ wants_of kind runs sums ms
   behind_run =
       let none : 0 - past ≡ 0 = omega arith in
@@ -228,6 +238,7 @@ module _ (kind : SumKind) (run : Run) (runs : List Run) (past : ℕ) (sums : Lis
       ap (λ k. wants_of kind runs (drop ((sectors_of k - past) * sum_size kind) sums) (drop (trees_of k) ms)) e
       ∙ ap (λ q. wants_of kind runs (drop q sums) ms) no_bytes
 
+  -- what is left is the others of its sectors, and what the runs behind it have
   plains_here : wants_left kind (run ∷ runs) past sums ms ≡ plains_from (run.addr + past * 4096) (n - past) ++ wants_of kind runs sums ms
   plains_here = ap (λ ws. run_left kind run.addr run.kind past sums ms ++ ws) behind_run
       ∙ ap (λ k. run_left kind run.addr k past sums ms ++ wants_of kind runs sums ms) e
@@ -271,6 +282,7 @@ module _ (kind : SumKind) (run : Run) (runs : List Run) (past : ℕ) (sums : Lis
         place,
       )
     where
+      -- so it is when d more are past
       later : wants_left kind (run ∷ runs) (past + d) sums ms ≡ plains_from (run.addr + (past + d) * 4096) (n - (past + d)) ++ wants_of kind runs sums ms
       later =
           let none : 0 - (past + d) ≡ 0 = omega arith in
@@ -300,117 +312,142 @@ passes_plain old new from bound end h = record {
   below = λ want i. all_below h.count from bound want h.below i;
 }
 
+-- a checksum has at least 4 bytes
 size_some : (kind : SumKind) → 4 ≤ sum_size kind
 size_some Crc32c = omega arith
 size_some Sha256 = omega arith
 size_some Xxh64 = omega arith
 
 -- a reader that stands at a place
-module _ (kept : Kept) (run past sum mark : ℕ) where
+module _ (kept : KeptBlocks) (run past sum mark : ℕ) where
+  -- behind the last run nothing is left
   pub at_end : slice_get kept.runs run ≡ None → left_in kept run past sum mark ≡ []
   at_end e = ap (λ q. wants_left kept.kind q past (drop sum kept.sums) (drop mark kept.marks)) (drop_none kept.runs run e)
 
-  module _ (stands : StandsIn kept run past sum mark) (r : Run) (there : slice_get kept.runs run ≡ Some r) where
-    runs_are : drop run kept.runs ≡ r ∷ drop (run + 1) kept.runs
-    runs_are = drop_one kept.runs run r there
+-- a reader that stands in a run
+pub record IsInRun (kept : KeptBlocks) (run past sum mark : ℕ) (r : Run) : Type 0 where
+  pub stands : StandsIn kept run past sum mark
+  pub there : slice_get kept.runs run ≡ Some r
 
-    place : IsPlace kept.kind (r ∷ drop (run + 1) kept.runs) past (drop sum kept.sums) (drop mark kept.marks)
-    place = subst (λ q. IsPlace kept.kind q past (drop sum kept.sums) (drop mark kept.marks)) runs_are stands
+module _ {kept : KeptBlocks} {run past sum mark : ℕ} {r : Run} (h : IsInRun kept run past sum mark r) where
+  -- the runs from there on begin with it
+  runs_are : drop run kept.runs ≡ r ∷ drop (run + 1) kept.runs
+  runs_are = drop_one kept.runs run r h.there
 
-    left_here : left_in kept run past sum mark ≡ wants_left kept.kind (r ∷ drop (run + 1) kept.runs) past (drop sum kept.sums) (drop mark kept.marks)
-    left_here = ap (λ q. wants_left kept.kind q past (drop sum kept.sums) (drop mark kept.marks)) runs_are
+  -- the reader stands at a place of that run and those behind it
+  place : IsPlace kept.kind (r ∷ drop (run + 1) kept.runs) past (drop sum kept.sums) (drop mark kept.marks)
+  place = subst (λ q. IsPlace kept.kind q past (drop sum kept.sums) (drop mark kept.marks)) runs_are h.stands
 
-    pub some_mark : r.kind ≡ TreeBlock → slice_get kept.marks mark ≡ None → ⊥
-    some_mark e none =
-        let one : trees_of r.kind ≡ 1 = ap trees_of e in
-        let nothing : length (drop mark kept.marks) ≡ 0 = ap length (drop_none kept.marks mark none) in
-        omega (arith, place.marks_fit, one, nothing)
+  -- what is left is that of this run and those behind it
+  left_here : left_in kept run past sum mark ≡ wants_left kept.kind (r ∷ drop (run + 1) kept.runs) past (drop sum kept.sums) (drop mark kept.marks)
+  left_here = ap (λ q. wants_left kept.kind q past (drop sum kept.sums) (drop mark kept.marks)) runs_are
 
-    pub at_tree : (m : TreeMark) → r.kind ≡ TreeBlock → slice_get kept.marks mark ≡ Some m
-        → (left_in kept run past sum mark ≡ Tree r.addr m.generation m.level ∷ left_in kept (run + 1) past sum (mark + 1))
-        × StandsIn kept (run + 1) past sum (mark + 1)
-    at_tree m e is =
-        let marks = drop_one kept.marks mark m is in
-        let t = tree_left kept.kind r (drop (run + 1) kept.runs) past (drop sum kept.sums) m (drop (mark + 1) kept.marks) e
-        (subst (λ q. IsPlace kept.kind (r ∷ drop (run + 1) kept.runs) past (drop sum kept.sums) q) marks place) in
-        (left_here ∙ ap (λ q. wants_left kept.kind (r ∷ drop (run + 1) kept.runs) past (drop sum kept.sums) q) marks ∙ t.0, t.1)
+  -- for a tree block there is a mark
+  pub some_mark : r.kind ≡ TreeBlock → slice_get kept.marks mark ≡ None → ⊥
+  some_mark e none =
+      let one : trees_of r.kind ≡ 1 = ap trees_of e in
+      let nothing : length (drop mark kept.marks) ≡ 0 = ap length (drop_none kept.marks mark none) in
+      omega (arith, place.marks_fit, one, nothing)
 
-    module _ (n : ℕ) (e : r.kind ≡ Sectors n) where
-      pub one_more : past + 1 ≤ n
-      one_more = one_left kept.kind r (drop (run + 1) kept.runs) past (drop sum kept.sums) n (drop mark kept.marks) e place
+  -- at a tree block what is left begins with it, and the reader can stand at the next run
+  pub at_tree : (m : TreeMark) → r.kind ≡ TreeBlock → slice_get kept.marks mark ≡ Some m
+      → (left_in kept run past sum mark ≡ Tree r.addr m.generation m.level ∷ left_in kept (run + 1) past sum (mark + 1))
+      × StandsIn kept (run + 1) past sum (mark + 1)
+  at_tree m e is =
+      let marks = drop_one kept.marks mark m is in
+      let t = tree_left kept.kind r (drop (run + 1) kept.runs) past (drop sum kept.sums) m (drop (mark + 1) kept.marks) e
+      (subst (λ q. IsPlace kept.kind (r ∷ drop (run + 1) kept.runs) past (drop sum kept.sums) q) marks place) in
+      (left_here ∙ ap (λ q. wants_left kept.kind (r ∷ drop (run + 1) kept.runs) past (drop sum kept.sums) q) marks ∙ t.0, t.1)
 
-      pub addr_fits : r.addr + past * 4096 < 2 ^ 64
-      addr_fits = in_range kept.kind r (drop (run + 1) kept.runs) past (drop sum kept.sums) n (drop mark kept.marks) e place
+  module _ {n : ℕ} (e : r.kind ≡ Sectors n) where
+    -- at sectors with checksums one is left at least
+    pub one_more : past + 1 ≤ n
+    one_more = one_left kept.kind r (drop (run + 1) kept.runs) past (drop sum kept.sums) n (drop mark kept.marks) e place
 
-      pub some_sum : sum + sum_size kept.kind ≤ length kept.sums
-      some_sum =
-          let h = sum_left kept.kind r (drop (run + 1) kept.runs) past (drop sum kept.sums) n (drop mark kept.marks) e place in
-          let long = length-drop sum kept.sums in
-          let some = size_some kept.kind in
-          omega (arith, h, long, some)
+    -- its address is below 2^64
+    pub addr_fits : r.addr + past * 4096 < 2 ^ 64
+    addr_fits = in_range kept.kind r (drop (run + 1) kept.runs) past (drop sum kept.sums) n (drop mark kept.marks) e place
 
-      pub at_last : past + 1 ≡ n → (size : ℕ) → size ≡ sum_size kept.kind
-          → (left_in kept run past sum mark ≡ Sector (r.addr + past * 4096) (stored_sum kept.kind (drop sum kept.sums)) ∷ left_in kept (run + 1) 0
-          (sum + size) mark) × StandsIn kept (run + 1) 0 (sum + size) mark
-      at_last h size is =
-          let t = last_left kept.kind r (drop (run + 1) kept.runs) past (drop sum kept.sums) n (drop mark kept.marks) e place h in
-          let bytes : drop (sum_size kept.kind) (drop sum kept.sums) ≡ drop (sum + size) kept.sums =
-          drop-drop (sum_size kept.kind) sum kept.sums ∙ ap (λ q. drop (sum + q) kept.sums) (sym is) in (
-            left_here ∙ t.0 ∙ ap (λ q. Sector (r.addr + past * 4096) (stored_sum kept.kind (drop sum kept.sums)) ∷ wants_left kept.kind
-                (drop (run + 1) kept.runs) 0 q (drop mark kept.marks)) bytes,
-            subst (λ q. IsPlace kept.kind (drop (run + 1) kept.runs) 0 q (drop mark kept.marks)) bytes t.1,
-          )
+    -- the list has its whole checksum
+    pub some_sum : sum + sum_size kept.kind ≤ length kept.sums
+    some_sum =
+        let left = sum_left kept.kind r (drop (run + 1) kept.runs) past (drop sum kept.sums) n (drop mark kept.marks) e place in
+        let long = length-drop sum kept.sums in
+        let some = size_some kept.kind in
+        omega (arith, left, long, some)
 
-      pub at_next : past + 1 ≢ n → (size : ℕ) → size ≡ sum_size kept.kind
-          → (left_in kept run past sum mark ≡ Sector (r.addr + past * 4096) (stored_sum kept.kind (drop sum kept.sums)) ∷ left_in kept run (past + 1)
-          (sum + size) mark) × StandsIn kept run (past + 1) (sum + size) mark
-      at_next h size is =
-          let t = next_left kept.kind r (drop (run + 1) kept.runs) past (drop sum kept.sums) n (drop mark kept.marks) e place h in
-          let bytes : drop (sum_size kept.kind) (drop sum kept.sums) ≡ drop (sum + size) kept.sums =
-          drop-drop (sum_size kept.kind) sum kept.sums ∙ ap (λ q. drop (sum + q) kept.sums) (sym is) in (
-            left_here ∙ t.0 ∙ ap (λ q. Sector (r.addr + past * 4096) (stored_sum kept.kind (drop sum kept.sums)) ∷ wants_left kept.kind
-                (r ∷ drop (run + 1) kept.runs) (past + 1) q (drop mark kept.marks)) bytes
-                ∙ ap (λ q. Sector (r.addr + past * 4096) (stored_sum kept.kind (drop sum kept.sums)) ∷ wants_left kept.kind q (past + 1)
-                (drop (sum + size) kept.sums) (drop mark kept.marks)) (sym runs_are),
-            subst (λ q. IsPlace kept.kind q (past + 1) (drop (sum + size) kept.sums) (drop mark kept.marks)) (sym runs_are)
-                (subst (λ q. IsPlace kept.kind (r ∷ drop (run + 1) kept.runs) (past + 1) q (drop mark kept.marks)) bytes t.1),
-          )
+    -- at the last of them what is left begins with it, and the reader can stand at the next run
+    pub at_last : past + 1 ≡ n → (size : ℕ) → size ≡ sum_size kept.kind
+        → (left_in kept run past sum mark ≡ Sector (r.addr + past * 4096) (stored_sum kept.kind (drop sum kept.sums)) ∷ left_in kept (run + 1) 0
+        (sum + size) mark) × StandsIn kept (run + 1) 0 (sum + size) mark
+    at_last end size is =
+        let t = last_left kept.kind r (drop (run + 1) kept.runs) past (drop sum kept.sums) n (drop mark kept.marks) e place end in
+        let bytes : drop (sum_size kept.kind) (drop sum kept.sums) ≡ drop (sum + size) kept.sums =
+        drop-drop (sum_size kept.kind) sum kept.sums ∙ ap (λ q. drop (sum + q) kept.sums) (sym is) in (
+          left_here ∙ t.0 ∙ ap (λ q. Sector (r.addr + past * 4096) (stored_sum kept.kind (drop sum kept.sums)) ∷ wants_left kept.kind
+              (drop (run + 1) kept.runs) 0 q (drop mark kept.marks)) bytes,
+          subst (λ q. IsPlace kept.kind (drop (run + 1) kept.runs) 0 q (drop mark kept.marks)) bytes t.1,
+        )
+
+    -- at another it begins with it too, and the reader can stand at the one behind it
+    pub at_next : past + 1 ≢ n → (size : ℕ) → size ≡ sum_size kept.kind
+        → (left_in kept run past sum mark ≡ Sector (r.addr + past * 4096) (stored_sum kept.kind (drop sum kept.sums)) ∷ left_in kept run (past + 1)
+        (sum + size) mark) × StandsIn kept run (past + 1) (sum + size) mark
+    at_next more size is =
+        let t = next_left kept.kind r (drop (run + 1) kept.runs) past (drop sum kept.sums) n (drop mark kept.marks) e place more in
+        let bytes : drop (sum_size kept.kind) (drop sum kept.sums) ≡ drop (sum + size) kept.sums =
+        drop-drop (sum_size kept.kind) sum kept.sums ∙ ap (λ q. drop (sum + q) kept.sums) (sym is) in (
+          left_here ∙ t.0 ∙ ap (λ q. Sector (r.addr + past * 4096) (stored_sum kept.kind (drop sum kept.sums)) ∷ wants_left kept.kind
+              (r ∷ drop (run + 1) kept.runs) (past + 1) q (drop mark kept.marks)) bytes
+              ∙ ap (λ q. Sector (r.addr + past * 4096) (stored_sum kept.kind (drop sum kept.sums)) ∷ wants_left kept.kind q (past + 1)
+              (drop (sum + size) kept.sums) (drop mark kept.marks)) (sym runs_are),
+          subst (λ q. IsPlace kept.kind q (past + 1) (drop (sum + size) kept.sums) (drop mark kept.marks)) (sym runs_are)
+              (subst (λ q. IsPlace kept.kind (r ∷ drop (run + 1) kept.runs) (past + 1) q (drop mark kept.marks)) bytes t.1),
+        )
 
 -- a reader that stands in a run of sectors without a checksum
-module _ (kept : Kept) (run past sum mark : ℕ) (stands : StandsIn kept run past sum mark) (r : Run) (there : slice_get kept.runs run ≡ Some r) (n : ℕ)
-    (e : r.kind ≡ Unsummed n) where
+module _ {kept : KeptBlocks} {run past sum mark : ℕ} {r : Run} (h : IsInRun kept run past sum mark r) {n : ℕ} (e : r.kind ≡ Unsummed n) where
+  -- the runs behind it
   abbrev behind : List Run
   behind = drop (run + 1) kept.runs
 
+  -- the checksums that are left to the reader
   abbrev bytes : List ℕ
   bytes = drop sum kept.sums
 
+  -- the marks that are left to it
   abbrev notes : List TreeMark
   notes = drop mark kept.marks
 
+  -- the reader stands at a place of this run and those behind it
   at_place : IsPlace kept.kind (r ∷ behind) past bytes notes
-  at_place = subst (λ q. IsPlace kept.kind q past bytes notes) (drop_one kept.runs run r there) stands
+  at_place = subst (λ q. IsPlace kept.kind q past bytes notes) (drop_one kept.runs run r h.there) h.stands
 
+  -- one of the run's sectors is left at least
   pub one_plain : past + 1 ≤ n
   one_plain = plain_left kept.kind r behind past bytes n notes e at_place
 
+  -- the address of that one is below 2^64
   pub plain_fits : r.addr + past * 4096 < 2 ^ 64
   plain_fits = plain_in_range kept.kind r behind past bytes n notes e at_place
 
+  -- so is the one behind the run's sectors
   pub plain_end_fits : r.addr + n * 4096 < 2 ^ 64
   plain_end_fits = plain_ends kept.kind r behind past bytes n notes e at_place
 
+  -- what is left begins with all the others of the run, and the reader can stand at the next run
   pub at_plain_last : (d : ℕ) → past + d ≡ n
       → (left_in kept run past sum mark ≡ plains_from (r.addr + past * 4096) d ++ left_in kept (run + 1) 0 sum mark) × StandsIn kept (run + 1) 0 sum mark
-  at_plain_last d h =
-      let t = plain_last kept.kind r behind past bytes n notes e at_place d h in
-      (ap (λ q. wants_left kept.kind q past bytes notes) (drop_one kept.runs run r there) ∙ t.0, t.1)
+  at_plain_last d end =
+      let t = plain_last kept.kind r behind past bytes n notes e at_place d end in
+      (ap (λ q. wants_left kept.kind q past bytes notes) (drop_one kept.runs run r h.there) ∙ t.0, t.1)
 
+  -- it begins with some of them, and the reader can stand behind these in the run
   pub at_plain_next : (d : ℕ) → past + d < n
       → (left_in kept run past sum mark ≡ plains_from (r.addr + past * 4096) d ++ left_in kept run (past + d) sum mark) × StandsIn kept run (past + d) sum mark
-  at_plain_next d h =
-      let is = drop_one kept.runs run r there in
-      let t = plain_next kept.kind r behind past bytes n notes e at_place d h in (
+  at_plain_next d more =
+      let is = drop_one kept.runs run r h.there in
+      let t = plain_next kept.kind r behind past bytes n notes e at_place d more in (
         ap (λ q. wants_left kept.kind q past bytes notes) is ∙ t.0
             ∙ ap (λ q. plains_from (r.addr + past * 4096) d ++ wants_left kept.kind q (past + d) bytes notes) (sym is),
         subst (λ q. IsPlace kept.kind q (past + d) bytes notes) (sym is) t.1,
@@ -432,5 +469,6 @@ module _ (kept : Kept) (run past sum mark : ℕ) (stands : StandsIn kept run pas
         }
       ]
 
+-- a reader that gives nothing is right where nothing is left
 pub gives_end : (old : List Want) (result : Option Want) → old ≡ [] → result ≡ None → GivesNext old result old
 gives_end old result e is = subst (λ r. GivesNext old r old) (sym is) (e, e)

@@ -1,13 +1,9 @@
 -- The first block of a list that has no position, or isn't behind the one before it.
 use Rattle.std.proofs.Common.{ℕ, ◌+◌, List, [], ◌∷◌, inl, inr, arith, ◌++◌, subst}
-use Rattle.btr_read.specs.Fate.{Unmapped, Crosses, sought}
-use Rattle.btr_read.specs.Layout.{Layout}
-use Rattle.btr_read.specs.Want.{addr_of, len_of}
-use Rattle.btr_read.specs.declared.want.Want.{Want}
-use Rattle.btr_walk.specs.declared.fault.TreeFault.{TreeFault}
+use Rattle.btr_scrub.proofs.Common.{AreApart, AreUpTo, Crosses, IsFirstRefused, Layout, TreeFault, Want, addr_of, len_of, sought}
+use Rattle.btr_read.specs.Fate.{Unmapped}
 use Rattle.btr_walk.specs.declared.fault.TreeFault.TheVariants as tree
-use Rattle.btr_scrub.specs.Judging.{BeginsFrom, IsFirstRefused, IsRefused}
-use Rattle.btr_scrub.specs.Order.{AreApart, AreUpTo}
+use Rattle.btr_scrub.specs.Judging.{BeginsFrom, IsRefused}
 use Rattle.btr_scrub.proofs.Placing.{not_ok}
 
 module _ (layout : Layout) where

@@ -1,54 +1,41 @@
 -- What is written for a full stripe hangs on the bytes of its elements alone.
 use Rattle.std.proofs.Common.{◌≡◌, ◌⊎◌, ℕ, ◌*◌, ◌<◌, Bool, false, not, cond, ◌&&◌, ◌||◌, eqb, List, [], ◌∷◌, ◌++◌, map, length, set, true, Some, None, IsNone}
 use Rattle.std.proofs.Common.{is_some, refl, sym, ap, ◌∙◌, subst, inl, inr}
-use Rattle.std.specs.List.{filter_map, flat_map, fold, list_all, list_any, range_with_len}
-use Rattle.std.specs.Option.{option_map, option_map_or}
-use Rattle.std.specs.Str.{bytes_eq}
-use Rattle.btr_chunk.specs.Chunk.{mirror_count, mirrors}
-use Rattle.btr_chunk.specs.Mapping.{HasPart}
-use Rattle.btr_chunk.specs.declared.place.Part.{Part}
+use Rattle.btr_scrub.proofs.Common.{Candidate, Failing, HasPart, Images, Layout, Part, Profile, Raid5, Raid6, Read, Row, Target, Write, accepted, and_parts}
+use Rattle.btr_scrub.proofs.Common.{bad_parts, block_writes, blocks_at, bytes_eq, candidates, counted, counted_plain, element_with, filter_map, flat_map}
+use Rattle.btr_scrub.proofs.Common.{fresh_writes, freshened, in_below, is_plain, list_any, mended_of, mending_writes, mirror_count, mirrors, new_bytes}
+use Rattle.btr_scrub.proofs.Common.{option_map, option_map_or, own_parts, parities, parity_p, parity_q, parity_writes, passing_filter, pasted}
+use Rattle.btr_scrub.proofs.Common.{range_in_element, range_with_len, renewed, row_writes, size_of, slice_count, slices_with, stale_parts, value_of}
+use Rattle.btr_scrub.proofs.Common.{without_copies}
+use Rattle.std.specs.List.{fold, list_all}
 use Rattle.btr_chunk.specs.declared.place.Part.TheVariants as part
-use Rattle.btr_chunk.specs.declared.profile.Profile.{Profile}
-use Rattle.btr_chunk.specs.declared.profile.Profile.TheVariants.{Raid5, Raid6}
-use Rattle.btr_chunk.proofs.Rows.{without_copies}
-use Rattle.btr_parity.specs.Slices.{parity_p, parity_q}
-use Rattle.btr_rack.specs.Rack.{pasted}
 use Rattle.btr_rack.specs.declared.place.Place.{Place as Range}
-use Rattle.btr_read.specs.Candidates.{Target, candidates, element, size_of, slice_count, slices, value_of}
-use Rattle.btr_read.specs.Layout.{Layout}
+use Rattle.btr_read.specs.Candidates.{element, slices}
 use Rattle.btr_read.specs.Solution.{byte_lists, the_one}
-use Rattle.btr_read.specs.declared.candidate.Candidate.{Candidate}
-use Rattle.btr_read.specs.declared.candidate.Candidate.TheVariants.{Read, ByP, ByQ, ByBoth}
-use Rattle.btr_read.proofs.Ones.{in_below}
-use Rattle.btr_read.specs.Fate.{is_plain}
-use Rattle.btr_scrub_copies.specs.Blocks.{accepted, bad_parts, block_writes, own_parts}
-use Rattle.btr_scrub_copies.specs.Fresh.{Failing, fresh_writes, stale_parts, freshened}
-use Rattle.btr_scrub_row.specs.Wanted.{mending_writes, new_bytes, renewed}
-use Rattle.btr_scrub_copies.specs.Writes.{Images, Write}
+use Rattle.btr_read.specs.declared.candidate.Candidate.TheVariants.{ByP, ByQ, ByBoth}
 use Rattle.btr_scrub_row.specs.Rows as rows
-use Rattle.btr_scrub_row.specs.Rows.{Row, blocks_at, column_of, differing, differs, element_with, is_decided, is_sure, is_surer, meets, parities, parity_writes}
-use Rattle.btr_scrub_row.specs.Rows.{range_in_element, row_writes, sector_write, slice_with, slices_with, with_block}
+use Rattle.btr_scrub_row.specs.Rows.{column_of, differing, differs, is_decided, is_sure, is_surer, meets}
+use Rattle.btr_scrub_row.specs.Rows.{sector_write, slice_with, with_block}
 use Rattle.btr_scrub.specs.BlocksInRows.{In}
 use Rattle.btr_scrub.proofs.Agreeing.{filter_map_same, filter_same, SiteAlike, site_alike}
 use Rattle.btr_scrub.proofs.Survival.{of_filter}
 use Rattle.btr_scrub.proofs.Lists.{mapped, of_filter_map}
 use Rattle.btr_scrub.proofs.OwnPlaces.{own_slice}
-use Rattle.btr_scrub.specs.Scrubbing.{counted, counted_plain}
-use Rattle.btr_scrub_copies.specs.Mending.{mended_of}
-use Rattle.btr_scrub_copies.proofs.Syncs.{passing_filter}
-use Rattle.std.proofs.lemmas.Bool.{and_parts}
 use Rattle.btr_scrub.proofs.RowValues.{each_candidate}
 
 -- ---- lists
 
+-- what is mapped is the same where each member gives the same
 pub map_same : {X Y : Type 0} (f g : X → Y) (xs : List X) → ((x : X) → In x xs → f x ≡ g x) → map f xs ≡ map g xs
 map_same f g [] h = refl
 map_same f g (x ∷ xs) h = ap (λ y. y ∷ map f xs) (h x (inl refl)) ∙ ap (λ ys. g x ∷ ys) (map_same f g xs (λ y i. h y (inr i)))
 
+-- so is what comes of all
 pub flat_same : {X Y : Type 0} (f g : X → List Y) (xs : List X) → ((x : X) → In x xs → f x ≡ g x) → flat_map f xs ≡ flat_map g xs
 flat_same f g [] h = refl
 flat_same f g (x ∷ xs) h = ap (λ ys. ys ++ flat_map f xs) (h x (inl refl)) ∙ ap (λ ys. g x ++ ys) (flat_same f g xs (λ y i. h y (inr i)))
 
+-- so is a fold by the same steps
 pub fold_same : {X Y : Type 0} (f g : Y → X → Y) (xs : List X) (y : Y) → ((x : X) → In x xs → (z : Y) → f z x ≡ g z x) → fold f y xs ≡ fold g y xs
 fold_same f g [] y h = refl
 fold_same f g (x ∷ xs) y h = ap (λ z. fold f z xs) (h x (inl refl) y) ∙ fold_same f g xs (g y x) (λ z i. h z (inr i))
@@ -60,11 +47,13 @@ flat_mapped f f' g h [] e = refl
 flat_mapped f f' g h (x ∷ xs) e =
     ap (λ zs. zs ++ flat_map f (map g xs)) (e x (inl refl)) ∙ ap (λ zs. f' (h x) ++ zs) (flat_mapped f f' g h xs (λ y i. e y (inr i)))
 
+-- so is one over what is mapped in two ways
 pub fold_mapped : {X Y Z : Type 0} (f f' : Z → Y → Z) (g h : X → Y) (xs : List X) (z : Z) → ((x : X) → In x xs → (z : Z) → f z (g x) ≡ f' z (h x))
     → fold f z (map g xs) ≡ fold f' z (map h xs)
 fold_mapped f f' g h [] z e = refl
 fold_mapped f f' g h (x ∷ xs) z e = ap (λ y. fold f y (map g xs)) (e x (inl refl) z) ∙ fold_mapped f f' g h xs (f' z (h x)) (λ y i. e y (inr i))
 
+-- tests of all agree where each one does
 all_same : {X : Type 0} (f g : X → Bool) (xs : List X) → ((x : X) → In x xs → f x ≡ g x) → list_all f xs ≡ list_all g xs
 all_same f g [] h = refl
 all_same f g (x ∷ xs) h = ap (λ b. b && list_all f xs) (h x (inl refl)) ∙ ap (λ b. g x && b) (all_same f g xs (λ y i. h y (inr i)))
@@ -73,33 +62,41 @@ all_same f g (x ∷ xs) h = ap (λ b. b && list_all f xs) (h x (inl refl)) ∙ a
 
 module _ (images images' : Images) (t : Target) (none : mirrors t.chunk ≡ None) (index : t.at.index < slice_count t)
     (same : (part : Part) → HasPart t.chunk.profile (length t.chunk.stripes) part → element images' t part ≡ element images t part) where
+  -- each slice is a part of the block's chunk
   slice_has : (k : ℕ) → k < slice_count t → HasPart t.chunk.profile (length t.chunk.stripes) (part.Slice k)
   slice_has k lt = (subst IsNone (sym none) refl, lt)
 
+  -- so its slices are the same
   same_slices : slices images' t ≡ slices images t
   same_slices = map_same (λ k. element images' t (part.Slice k)) (λ k. element images t (part.Slice k)) (range_with_len 0 (slice_count t))
       (λ k i. same (part.Slice k) (slice_has k (in_below (slice_count t) k i)))
 
+  -- its P is the same
   same_p : element images' t part.P ≡ element images t part.P
   same_p = same part.P (subst IsNone (sym none) refl)
 
+  -- its own slice gives the same
   own_value : value_of images' t (Read (part.Slice t.at.index)) ≡ value_of images t (Read (part.Slice t.at.index))
   own_value = same (part.Slice t.at.index) (slice_has t.at.index index)
 
+  -- what P gives for it is the same
   p_value : value_of images' t ByP ≡ value_of images t ByP
   p_value = (
       ap (λ ss. the_one (size_of t) (λ X. bytes_eq (parity_p (size_of t) (set ss t.at.index X)) (element images' t part.P))) same_slices
       ∙ ap (λ p. the_one (size_of t) (λ X. bytes_eq (parity_p (size_of t) (set (slices images t) t.at.index X)) p)) same_p)
 
   module _ (six : t.chunk.profile ≡ Raid6) where
+    -- its Q is the same
     same_q : element images' t part.Q ≡ element images t part.Q
     same_q = same part.Q six
 
+    -- what Q gives for it is the same
     q_value : value_of images' t ByQ ≡ value_of images t ByQ
     q_value = (
         ap (λ ss. the_one (size_of t) (λ X. bytes_eq (parity_q (size_of t) (set ss t.at.index X)) (element images' t part.Q))) same_slices
         ∙ ap (λ q. the_one (size_of t) (λ X. bytes_eq (parity_q (size_of t) (set (slices images t) t.at.index X)) q)) same_q)
 
+    -- what both give for it, without another slice, is the same
     both_value : (j : ℕ) → value_of images' t (ByBoth j) ≡ value_of images t (ByBoth j)
     both_value j = (
         ap (λ ss. the_one (size_of t) (λ X. list_any (λ Y. bytes_eq (parity_p (size_of t) (set (set ss j Y) t.at.index X)) (element images' t part.P)
@@ -109,9 +106,11 @@ module _ (images images' : Images) (t : Target) (none : mirrors t.chunk ≡ None
         ∙ ap (λ q. the_one (size_of t) (λ X. list_any (λ Y. bytes_eq (parity_p (size_of t) (set (set (slices images t) j Y) t.at.index X))
         (element images t part.P) && bytes_eq (parity_q (size_of t) (set (set (slices images t) j Y) t.at.index X)) q) (byte_lists (size_of t)))) same_q)
 
+  -- each candidate gives the same
   pub values : (c : Candidate) → In c (candidates t) → value_of images' t c ≡ value_of images t c
   values = each_candidate t none index (λ c. value_of images' t c ≡ value_of images t c) own_value p_value q_value (λ six j lt ne. both_value six j)
 
+  -- the same bytes stand at its own place
   owns : (q : Part) → In q (own_parts t) → element images' t q ≡ element images t q
   owns q i = subst (λ q. element images' t q ≡ element images t q) (own_slice t q none i) (same (part.Slice t.at.index) (slice_has t.at.index index))
 
@@ -128,10 +127,12 @@ parity_has p n q none i = elim (without_copies p n none) [
   | inr six ↦ subst (λ p. HasPart p n q × ((q ≡ part.P) ⊎ (q ≡ part.Q))) (sym six) (with_two (subst (λ p. In q (parities p)) six i))
 ]
   where
+    -- where there is one parity, it is P
     with_one : In q (part.P ∷ []) → HasPart Raid5 n q × ((q ≡ part.P) ⊎ (q ≡ part.Q))
     with_one (inl e) = subst (λ q. HasPart Raid5 n q × ((q ≡ part.P) ⊎ (q ≡ part.Q))) e (refl, inl refl)
     with_one (inr h) = absurd h
 
+    -- where there are two, they are P and Q
     with_two : In q (part.P ∷ part.Q ∷ []) → HasPart Raid6 n q × ((q ≡ part.P) ⊎ (q ≡ part.Q))
     with_two (inl e) = subst (λ q. HasPart Raid6 n q × ((q ≡ part.P) ⊎ (q ≡ part.Q))) e (refl, inl refl)
     with_two (inr (inl e)) = subst (λ q. HasPart Raid6 n q × ((q ≡ part.P) ⊎ (q ≡ part.Q))) e (refl, inr refl)
@@ -146,6 +147,7 @@ pub record IsSector (images : Images) (layout : Layout) (row : Row) (q : Part) (
   pub range : range_in_element layout row q (column * 4096) 4096 ≡ Some w.range
   pub bytes : column_of column (element_with images layout (new_bytes images row.failing) row q) ≡ w.bytes
 
+-- what is written of a parity is a sector of it in a column that is decided and differs
 pub is_sector : (images : Images) (layout : Layout) (row : Row) (q : Part) (w : Write) → In w (parity_writes images layout row q)
     → IsSector images layout row q w
 is_sector images layout row q w i =
@@ -172,9 +174,9 @@ pub record RowAlike (images images' : Images) (layout : Layout) (row : Row) (als
   pub blocks : (t : Target) → In t row.blocks → SiteAlike row.failing also images images' t
   pub parities : (q : Part) → In q (parities row.chunk.profile) → parity_writes images' layout (beside also row) q ≡ parity_writes images layout row q
 
+-- then the same is written for the full stripe
 pub row_writes_alike : (images images' : Images) (layout : Layout) (row : Row) (also : Failing) → RowAlike images images' layout row also
-    → row_writes images' layout (beside also row)
-    ≡ row_writes images layout row
+    → row_writes images' layout (beside also row) ≡ row_writes images layout row
 row_writes_alike images images' layout row also a =
     ap (λ ws. ws ++ flat_map (parity_writes images' layout (beside also row)) (parities row.chunk.profile))
     (flat_same (mending_writes images' also) (mending_writes images row.failing) row.blocks (λ t i. (a.blocks t i).writes))
@@ -186,10 +188,12 @@ module _ (images images' : Images) (layout : Layout) (row : Row) (also : Failing
     → rows.element images' layout (beside also row) q ≡ rows.element images layout row q)
     (blocks : (t : Target) → In t row.blocks → SiteAlike row.failing also images images' t)
     (sures : (t : Target) → In t row.blocks → is_sure images' layout (beside also row) t ≡ is_sure images layout row t) where
+  -- the bytes that a block gets change a slice in the same way
   given_same : (t : Target) → In t row.blocks → (bytes : List ℕ) → with_block images' layout (new_bytes images' also) bytes t
       ≡ with_block images layout (new_bytes images row.failing) bytes t
   given_same t i bytes = ap (λ o. option_map_or (pasted bytes t.at.rest) o bytes) (blocks t i).bytes
 
+  -- each slice with its blocks' bytes is the same
   slice_same : (k : ℕ) → k < rows.slice_count row → slice_with images' layout (new_bytes images' also) row k
       ≡ slice_with images layout (new_bytes images row.failing) row k
   slice_same k lt =
@@ -197,10 +201,12 @@ module _ (images images' : Images) (layout : Layout) (row : Row) (also : Failing
       ∙ fold_same (with_block images' layout (new_bytes images' also)) (with_block images layout (new_bytes images row.failing)) (blocks_at row k)
       (rows.element images layout row (part.Slice k)) (λ t i bytes. given_same t (of_filter (λ u. eqb u.at.index k) t row.blocks i) bytes)
 
+  -- so are all the slices
   slices_same : slices_with images' layout (new_bytes images' also) row ≡ slices_with images layout (new_bytes images row.failing) row
   slices_same = map_same (slice_with images' layout (new_bytes images' also) row) (slice_with images layout (new_bytes images row.failing) row)
       (range_with_len 0 (rows.slice_count row)) (λ k i. slice_same k (in_below (rows.slice_count row) k i))
 
+  -- so are its parities
   with_same : (q : Part) → (q ≡ part.P) ⊎ (q ≡ part.Q) → element_with images' layout (new_bytes images' also) row q
       ≡ element_with images layout (new_bytes images row.failing) row q
   with_same q (inl e) =
@@ -210,12 +216,14 @@ module _ (images images' : Images) (layout : Layout) (row : Row) (also : Failing
       subst (λ q. element_with images' layout (new_bytes images' also) row q ≡ element_with images layout (new_bytes images row.failing) row q) (sym e)
       (ap (parity_q 65536) slices_same)
 
+  -- a column is decided in both, or in neither
   decided_same : (column : ℕ) → is_decided images' layout (beside also row) column ≡ is_decided images layout row column
   decided_same column =
       ap (λ b. list_any (meets column) row.blocks && b)
       (all_same (λ t. not (meets column t) || is_sure images' layout (beside also row) t) (λ t. not (meets column t) || is_sure images layout row t) row.blocks
       (λ t i. ap (λ b. not (meets column t) || b) (sures t i)))
 
+  -- so the same is written for a parity
   parity_same : (q : Part) → In q (parities row.chunk.profile) → parity_writes images' layout (beside also row) q ≡ parity_writes images layout row q
   parity_same q i =
       let has = parity_has row.chunk.profile (length row.chunk.stripes) q none i in
@@ -252,8 +260,7 @@ checked_alike fails also images t e = record {
   wrong = ap (λ b. cond b (stale_parts images also t) (bad_parts images t)) e ∙ sym (ap (λ b. cond b (stale_parts images fails t) (bad_parts images t)) e);
   bytes = ap (λ b. cond b (renewed images also t) (accepted images t)) e ∙ sym (ap (λ b. cond b (renewed images fails t) (accepted images t)) e);
   lost = refl;
-  counts = λ write tally.
-      ap (λ b. cond b (counted_plain tally (freshened images also t write)) (counted tally (mended_of images t write))) e
+  counts = λ write tally. ap (λ b. cond b (counted_plain tally (freshened images also t write)) (counted tally (mended_of images t write))) e
       ∙ sym (ap (λ b. cond b (counted_plain tally (freshened images fails t write)) (counted tally (mended_of images t write))) e);
 }
 
@@ -262,7 +269,6 @@ pub checked_row : (images : Images) (layout : Layout) (row : Row) (also : Failin
     → ((t : Target) → In t row.blocks → is_plain t.want ≡ false) → RowAlike images images layout row also
 checked_row images layout row also none checked =
     row_alike images images layout row also none (λ q has. refl) (λ t i. checked_alike row.failing also images t (checked t i))
-    (λ t i.
-    ap (λ o. is_some o || is_plain t.want && is_surer images layout (beside also row) t) (checked_alike row.failing also images t (checked t i)).bytes
+    (λ t i. ap (λ o. is_some o || is_plain t.want && is_surer images layout (beside also row) t) (checked_alike row.failing also images t (checked t i)).bytes
     ∙ ap (λ b. is_some (new_bytes images row.failing t) || b && is_surer images layout (beside also row) t) (checked t i)
     ∙ sym (ap (λ b. is_some (new_bytes images row.failing t) || b && is_surer images layout row t) (checked t i)))

@@ -2,39 +2,23 @@
 use Rattle.std.proofs.Common.{◌≡◌, ℕ, ◌+◌, ◌-◌, ◌*◌, ◌<◌, ◌≤◌, true, false, List, [], length, drop, slice_get, All, Option, Some, None, IsNone, IsSome}
 use Rattle.std.proofs.Common.{IsSomeAnd, refl, sym, ap, ◌∙◌, subst, inl, inr, arith, length-take}
 use Rattle.std.proofs.lemmas.List.Elements.{All-append}
-use Rattle.std.proofs.lemmas.Option.{same_Some}
-use Rattle.std.specs.List.{flat_map, list_any}
-use Rattle.std.specs.Option.{option_map_or}
-use Rattle.btr_chunk.specs.Chunk.{IsChunk, is_striped, mirrors}
-use Rattle.btr_chunk.specs.Mapping.{HasPart, IsPosition, place_at, place_on}
-use Rattle.btr_chunk.specs.Table.{IsTable}
-use Rattle.btr_chunk.specs.declared.place.Part.{Part}
+use Rattle.btr_scrub.proofs.Common.{Device, Elements, HasPart, HaveLengths, Images, IsChunk, IsInRow, IsOfElement, IsPosition, IsSought, IsTable}
+use Rattle.btr_scrub.proofs.Common.{KeepsOutside, Layout, LiesInRow, Part, Row, StripePlace, Target, Write, addr_of, device_in, element_with, flat_map}
+use Rattle.btr_scrub.proofs.Common.{image_of, is_striped, list_any, mending_writes, mirrors, new_bytes, option_map_or, parities, parity_writes, place_at}
+use Rattle.btr_scrub.proofs.Common.{placed_part, range_in, range_in_element, range_of, range_on, range_stands, row_writes, same_Some, size_of, stands_on}
+use Rattle.btr_scrub.proofs.Common.{without_copies}
+use Rattle.btr_chunk.specs.Mapping.{place_on}
 use Rattle.btr_chunk.specs.declared.place.Part.TheVariants as part
-use Rattle.btr_chunk.specs.declared.place.StripePlace.{StripePlace}
-use Rattle.btr_chunk.specs.declared.position.Elements.{Elements}
-use Rattle.btr_chunk.proofs.Bytes.{placed_part}
-use Rattle.btr_chunk.proofs.Rows.{without_copies}
-use Rattle.btr_rack.specs.Rack.{bytes_of, image_of, range_in}
+use Rattle.btr_rack.specs.Rack.{bytes_of}
 use Rattle.btr_rack.specs.declared.place.Place.{Place as Range}
-use Rattle.btr_read.specs.Candidates.{Target, range_of, range_on, size_of}
-use Rattle.btr_read.specs.Layout.{Layout, device_in}
-use Rattle.btr_read.specs.Want.{addr_of}
-use Rattle.btr_read.specs.declared.device.Device.{Device}
-use Rattle.btr_scrub_row.specs.Wanted.{mending_writes, new_bytes}
-use Rattle.btr_scrub_copies.specs.Writes.{Images, Write}
 use Rattle.btr_scrub_row.specs.Rows as rows
-use Rattle.btr_scrub_row.specs.Rows.{Row, column_of, differing, differs, element_with, is_decided, parities, parity_writes, range_in_element, row_writes}
-use Rattle.btr_scrub_row.specs.Rows.{sector_write}
-use Rattle.btr_scrub.specs.Devices.{HaveLengths}
-use Rattle.btr_scrub.specs.BlocksInRows.{In, IsInRow, LiesInRow}
-use Rattle.btr_scrub.specs.WrittenRanges.{KeepsOutside}
-use Rattle.btr_scrub.specs.Order.{IsSought}
-use Rattle.btr_scrub.specs.Places.{IsOfElement}
+use Rattle.btr_scrub.specs.BlocksInRows.{In}
 use Rattle.btr_scrub.specs.Repair.{covers}
 use Rattle.btr_scrub.proofs.CopyWrites.{same_element}
-use Rattle.btr_scrub_row.proofs.Elements.{range_stands, stands_on, stripe-row}
+use Rattle.btr_scrub_row.proofs.Elements.{stripe-row}
 use Rattle.btr_scrub.proofs.Places.{covered, covering}
-use Rattle.btr_scrub.proofs.Positions.{striped_fits, striped_position, position_is}
+use Rattle.btr_scrub.proofs.Positions.{striped_fits, position_is}
+use Rattle.btr_chunk.proofs.Bytes.{striped-position}
 use Rattle.btr_scrub.proofs.RowAgreeing.{RowAlike, parity_alike, parity_has, row_alike, sure_same, is_sector}
 use Rattle.btr_scrub.proofs.Shorts.{site_short}
 use Rattle.btr_scrub.proofs.OwnPlaces.{wrong_own, own_slice, over_byte}
@@ -62,11 +46,12 @@ pub in_one_element : (layout : Layout) (t : Target) → IsSought layout t → mi
 in_one_element layout t is none =
     let striped : is_striped t.chunk.profile ≡ true =
     elim (without_copies t.chunk.profile (length t.chunk.stripes) none) [ inl five ↦ ap is_striped five | inr six ↦ ap is_striped six ] in
-    let rest = ap (λ (e : Elements). e.rest) (is.at ∙ striped_position t.chunk (addr_of t.want) striped) in
+    let rest = ap (λ (e : Elements). e.rest) (is.at ∙ striped-position t.chunk (addr_of t.want) striped) in
     let small = striped_fits t.chunk (addr_of t.want) (size_of t) striped is.uncrossed in
     omega (arith, rest, small)
 
 module _ (layout : Layout) (row : Row) (table : IsTable layout.chunks) (is_row : IsRowIn layout row) where
+  -- the row's chunk is sound, as each of its table is
   sound : IsChunk row.chunk
   sound = (table.sound is_row.chunk_number row.chunk is_row.there).0
 
@@ -78,6 +63,7 @@ module _ (layout : Layout) (row : Row) (table : IsTable layout.chunks) (is_row :
         (place_at row.chunk q (record { row = row.number; index = 0; rest = 0 })).offset 65536)
     pub within : (place_at row.chunk q (record { row = row.number; index = 0; rest = 0 })).offset + 65536 ≤ device.len
 
+  -- each element begins at a place on a device that is given
   pub begins : (q : Part) → HasPart row.chunk.profile (length row.chunk.stripes) q → Begins q
   begins q has =
       let place = place_at row.chunk q (record { row = row.number; index = 0; rest = 0 }) in
@@ -110,6 +96,7 @@ module _ (layout : Layout) (row : Row) (table : IsTable layout.chunks) (is_row :
     offset : (place_at row.chunk q (record { row = row.number; index = index; rest = rest })).offset
         ≡ (place_at row.chunk q (record { row = row.number; index = 0; rest = 0 })).offset + rest
 
+  -- what is at a position of the row lies on its element's device, as far behind the element's start
   lies : (q : Part) (index rest : ℕ) → HasPart row.chunk.profile (length row.chunk.stripes) q
       → IsPosition row.chunk (record { row = row.number; index = index; rest = rest }) → Lies q index rest
   lies q index rest has position =
@@ -154,9 +141,11 @@ module _ (layout : Layout) (row : Row) (table : IsTable layout.chunks) (is_row :
 
   -- ---- blocks of the row
 
+  -- a block of a full stripe has no copies
   pub no_copies : (t : Target) → IsBlockOf layout row t → mirrors t.chunk ≡ None
   no_copies t of = ap mirrors of.chunk ∙ is_row.parity
 
+  -- it is in a row
   pub block_in_row : (t : Target) → IsBlockOf layout row t → IsInRow t
   block_in_row t of = record {
     keeps_rule = (table.sound of.is.number t.chunk of.is.there).0;
@@ -164,10 +153,12 @@ module _ (layout : Layout) (row : Row) (table : IsTable layout.chunks) (is_row :
     parity = no_copies t of;
   }
 
+  -- it lies in this one
   pub block_lies : (t : Target) → IsBlockOf layout row t → LiesInRow layout row t
   block_lies t of =
       record { chunk = of.chunk; number = of.number; devices = of.is.devices; inside = in_one_element layout t of.is (no_copies t of) }
 
+  -- its own slice is a part of the chunk
   pub has_own : (t : Target) → IsBlockOf layout row t → HasPart row.chunk.profile (length row.chunk.stripes) (part.Slice t.at.index)
   has_own t of = (subst IsNone (sym is_row.parity) refl, (subst (λ c. IsPosition c t.at) of.chunk (position_is layout t table of.is)).index)
 
@@ -176,11 +167,13 @@ module _ (layout : Layout) (row : Row) (table : IsTable layout.chunks) (is_row :
       → IsSomeAnd (range_of t q) (λ range. covers slot off range ≡ true) → IsOfElement layout row q slot off
   block_byte t q slot off of has c = by (range_of t q) refl c
     where
+      -- the block's position is one of the row
       position : IsPosition row.chunk (record { row = row.number; index = t.at.index; rest = t.at.rest })
       position =
           subst (λ n. IsPosition row.chunk (record { row = n; index = t.at.index; rest = t.at.rest })) of.number
           (subst (λ c. IsPosition c t.at) of.chunk (position_is layout t table of.is))
 
+      -- it ends in its element
       fits : t.at.rest + size_of t ≤ 65536
       fits = (block_lies t of).inside
 
@@ -200,14 +193,14 @@ module _ (layout : Layout) (row : Row) (table : IsTable layout.chunks) (is_row :
 
   -- a byte that is written for a block
   pub written_block : (images : Images) (t : Target) (slot off : ℕ) → IsBlockOf layout row t
-      → list_any (λ (w : Write). covers slot off w.range) (mending_writes images row.failing t) ≡ true
-      → IsOfElement layout row (part.Slice t.at.index) slot off
+      → list_any (λ (w : Write). covers slot off w.range) (mending_writes images row.failing t) ≡ true → IsOfElement layout row (part.Slice t.at.index) slot off
   written_block images t slot off of h =
       let o = over_byte images row.failing t slot off h in
       let q = own_slice t o.2.part (no_copies t of) (wrong_own images row.failing t o.2.part o.2.wrong) in
       block_byte t (part.Slice t.at.index) slot off of (has_own t of)
       (subst (λ o. IsSomeAnd o (λ range. covers slot off range ≡ true)) (sym (ap (range_of t) q ∙ o.2.range)) o.1)
 
+  -- a column has a position
   pub column_at : (column : ℕ) → column < 16 → IsPosition row.chunk (record { row = row.number; index = 0; rest = column * 4096 })
   column_at column few = record { index = is_row.position.index; inside = omega (arith, is_row.position.inside, few) }
 
@@ -221,8 +214,7 @@ module _ (layout : Layout) (row : Row) (table : IsTable layout.chunks) (is_row :
 
   -- each byte that is written for the row is of one of its elements
   pub written_row : (images : Images) (slot off : ℕ) → ((t : Target) → In t row.blocks → IsBlockOf layout row t)
-      → list_any (λ (w : Write). covers slot off w.range) (row_writes images layout row) ≡ true
-      → (q : Part) × IsOfElement layout row q slot off
+      → list_any (λ (w : Write). covers slot off w.range) (row_writes images layout row) ≡ true → (q : Part) × IsOfElement layout row q slot off
   written_row images slot off of h =
       let W = λ (w : Write). covers slot off w.range in
       elim (any_append W (flat_map (mending_writes images row.failing) row.blocks)
@@ -238,6 +230,7 @@ module _ (layout : Layout) (row : Row) (table : IsTable layout.chunks) (is_row :
   -- ---- the writes have at most as many bytes as their ranges
 
   module _ (images : Images) (lengths : HaveLengths images layout) where
+    -- each write for a parity fits
     parity_short : (q : Part) → HasPart row.chunk.profile (length row.chunk.stripes) q → All (Short images) (parity_writes images layout row q)
     parity_short q has = all_from (Short images) (parity_writes images layout row q) (λ w i.
         let s = is_sector images layout row q w i in
@@ -254,6 +247,7 @@ module _ (layout : Layout) (row : Row) (table : IsTable layout.chunks) (is_row :
           within = omega (arith, off, len, image, b.within, s.few);
         })
 
+    -- each write for a full stripe fits
     pub row_short : ((t : Target) → In t row.blocks → IsBlockOf layout row t) → All (Short images) (row_writes images layout row)
     row_short of =
         All-append (Short images) (flat_map (mending_writes images row.failing) row.blocks)
@@ -264,12 +258,14 @@ module _ (layout : Layout) (row : Row) (table : IsTable layout.chunks) (is_row :
 
     -- ---- what is told of the row, where none of its bytes was written
 
+    -- where nothing in its elements was written, it is as before
     pub row_stays : (images' : Images) (ranges : List Range) → ((t : Target) → In t row.blocks → IsBlockOf layout row t) → KeepsOutside ranges images images'
         → ((q : Part) (slot off : ℕ) → IsOfElement layout row q slot off → list_any (covers slot off) ranges ≡ false)
         → RowAlike images images' layout row row.failing
     row_stays images' ranges of keeps free = row_alike images images' layout row row.failing is_row.parity elements blocks
         (λ t i. sure_same images images' layout row t (blocks t i).bytes)
       where
+        -- its elements have the same bytes
         elements : (q : Part) → HasPart row.chunk.profile (length row.chunk.stripes) q → rows.element images' layout row q ≡ rows.element images layout row q
         elements q has =
             let b = begins q has in
@@ -281,6 +277,7 @@ module _ (layout : Layout) (row : Row) (table : IsTable layout.chunks) (is_row :
             (sym (keeps.lengths slot)) (λ i from to. keeps.bytes slot i (free q slot i (of_element q has b i from to)))
             ∙ sym (ap (λ (o : Option Range). option_map_or (λ range. bytes_of images range.slot range.off range.len) o []) b.whole)
 
+        -- what is told of its blocks is as before
         blocks : (t : Target) → In t row.blocks → SiteAlike row.failing row.failing images images' t
         blocks t i =
             let o = of t i in

@@ -1,53 +1,45 @@
 -- Mending one thing after another.
 use Rattle.std.proofs.Common.{◌≡◌, ◌⊎◌, Bool, true, false, List, [], ◌++◌, length, Option, Some, None, IfSome, OnOk, is_none, is_some, Result, Ok, Err}
 use Rattle.std.proofs.Common.{IsErrAnd, refl, sym, ap, ◌∙◌, subst, inl, inr, arith}
-use Rattle.std.proofs.lemmas.Bool.{false≢true}
-use Rattle.std.proofs.lemmas.Option.{same_Some}
+use Rattle.btr_scrub.proofs.Common.{AccountsMend, Blocks, CanMend, Image, Images, IsOfScrub, IsTable, Layout, LiesInStripe, Memory, MendFault, Mended}
+use Rattle.btr_scrub.proofs.Common.{OnlyReads, SameLoans, Scrubs, Seen, Serves, Tally, Target, Write, false≢true, first_missing, plain, reads_more, same_Some}
+use Rattle.btr_scrub.proofs.Common.{waiting, write_on, writes_if}
 use Rattle.std.specs.List.{count_by, fold}
-use Rattle.btr_rack.specs.Rack.{OnlyReads, Seen}
 use Rattle.btr_rack.specs.declared.place.Place.{Place as Range}
-use Rattle.btr_rack.proofs.Reading.{reads_more}
-use Rattle.btr_read.specs.Layout.{Layout}
-use Rattle.btr_chunk.specs.Table.{IsTable}
-use Rattle.btr_read.specs.Candidates.{Target}
-use Rattle.btr_read.specs.Serves.{Serves}
-use Rattle.btr_read.specs.Store.{Blocks, SameLoans}
 use Rattle.btr_scrub_copies.specs.Mending.{IsOfCopy}
-use Rattle.btr_scrub_copies.specs.declared.mended.Mended.{Mended}
-use Rattle.btr_scrub_copies.specs.Writes.{AccountsMend, AreWritable, Does, Images, In, LeaveImages, Write, writes_if, write_on}
-use Rattle.btr_scrub_copies.specs.declared.mended.MendFault.{MendFault}
-use Rattle.btr_scrub_copies.specs.declared.mended.MendFault.TheVariants.{Image, Memory}
-use Rattle.btr_scrub_copies.specs.Syncing.{Strands, plain}
-use Rattle.btr_scrub_copies.specs.Turns.{WaitsAt, waiting}
+use Rattle.btr_scrub_copies.specs.Writes.{AreWritable, DoesWrites, In, LeaveImages}
+use Rattle.btr_scrub_copies.specs.Syncing.{Strands}
+use Rattle.btr_scrub_copies.specs.Turns.{WaitsAt}
 use Rattle.btr_scrub_copies.proofs.Doing.{does_as, does_as_halt, does_failed, does_halt, does_reads, does_then}
 use Rattle.btr_scrub_copies.proofs.Turning.{does_plain, marked_after, same_never, strands_none, strands_same, waits_at}
-use Rattle.btr_scrub.specs.WrittenRanges.{LiesInStripe}
-use Rattle.btr_scrub.specs.Repair.{first_missing}
-use Rattle.btr_scrub.specs.Scrubbing.{CanMend, IsOfScrub, Scrubs}
-use Rattle.btr_scrub.specs.declared.tally.Tally.{Tally}
 use Rattle.btr_scrub.proofs.Lists.{passed}
+use Rattle.btr_read.proofs.Trials.{telling}
 
-none_some : {X : Type 0} (x : X) → None ≡ Some x → ⊥
+-- what is missing isn't there
+pub none_some : {X : Type 0} (x : X) → None ≡ Some x → ⊥
 none_some x e = false≢true (ap is_some e)
+
+-- what is said of the images where they are told is so of those that are
+pub told : (o : Option Images) (Q : Images → Type 0) (images : Images) → o ≡ Some images → IfSome o Q → Q images
+told o Q images e h = telling o Q h images e
 
 -- what is said of the images, where they are told
 pub tell : (o : Option Images) (Q : Images → Type 0) → ((images : Images) → o ≡ Some images → Q images) → IfSome o Q
 tell None Q h = tt
 tell (Some images) Q h = h images refl
 
-pub told : (o : Option Images) (Q : Images → Type 0) (images : Images) → o ≡ Some images → IfSome o Q → Q images
-told o Q images e h = subst (λ o. IfSome o Q) e h
-
 -- ---- what was done
 
+-- what failed at places failed at any that hold them
 account_weaker : {A : Type 0} (P Q : Range → Type 0) (a b : Seen) (r : Result A MendFault) → ((range : Range) → P range → Q range)
     → AccountsMend P a b r → AccountsMend Q a b r
 account_weaker P Q a b (Ok x) weak h = h
 account_weaker P Q a b (Err (Image slot)) weak h = record { place = h.place; failed = h.failed; on_slot = h.on_slot; lies = weak h.place h.lies }
 account_weaker P Q a b (Err Memory) weak h = h
 
+-- what was done at places was done at any that hold them
 pub does_weaker : {A : Type 0} (P Q : Range → Type 0) (f : Images → List Write) (m n : List Bool) (a b : Seen) (r : Result A MendFault)
-    → ((range : Range) → P range → Q range) → Does P f m n a b r → Does Q f m n a b r
+    → ((range : Range) → P range → Q range) → DoesWrites P f m n a b r → DoesWrites Q f m n a b r
 does_weaker P Q f m n a b r weak h =
     record {
       ranges = h.ranges;
@@ -68,35 +60,38 @@ waits_weaker P Q a b weak h range i = elim (h range i) as (λ _. In range (waiti
 
 -- with another value
 pub does_value : {A B : Type 0} (P : Range → Type 0) (f : Images → List Write) (m n : List Bool) (a b : Seen) (x : A) (y : B)
-    → Does P f m n a b (Ok x) → Does P f m n a b (Ok y)
+    → DoesWrites P f m n a b (Ok x) → DoesWrites P f m n a b (Ok y)
 does_value P f m n a b x y h = does_as P f f m n a b x y (λ images e. refl) h
 
+-- what came to a fault did so with any value
 pub does_fault : {A B : Type 0} (P : Range → Type 0) (f : Images → List Write) (m n : List Bool) (a b : Seen) (e : MendFault)
-    → Does {A = A} P f m n a b (Err e) → Does {A = B} P f m n a b (Err e)
+    → DoesWrites {A = A} P f m n a b (Err e) → DoesWrites {A = B} P f m n a b (Err e)
 does_fault {A = A} {B = B} P f m n a b e h = does_as_halt P A B f f m n a b e (λ images same. refl) h
 
 -- the same writes, said otherwise
 pub recast : {A : Type 0} {P : Range → Type 0} {f g : Images → List Write} {m n : List Bool} {a b : Seen} {r : Result A MendFault}
-    → Does P f m n a b r → ((images : Images) → a.held ≡ Some images → f images ≡ g images) → Does P g m n a b r
+    → DoesWrites P f m n a b r → ((images : Images) → a.held ≡ Some images → f images ≡ g images) → DoesWrites P g m n a b r
 recast {P = P} {f = f} {g = g} {m = m} {n = n} {a = a} {b = b} {r = Ok x} h e = does_as P f g m n a b x x e h
 recast {A = A} {P = P} {f = f} {g = g} {m = m} {n = n} {a = a} {b = b} {r = Err x} h e = does_as_halt P A A f g m n a b x e h
 
 -- the images after writes
 pub held_after : {U : Type 0} (P : Range → Type 0) (f : Images → List Write) (m n : List Bool) (a b : Seen) (u : U) (images : Images) → a.held
-    ≡ Some images → Does P f m n a b (Ok u) → b.held ≡ Some (fold write_on images (f images))
+    ≡ Some images → DoesWrites P f m n a b (Ok u) → b.held ≡ Some (fold write_on images (f images))
 held_after {U = U} P f m n a b u images e h = subst (λ o. LeaveImages {A = U} {E = MendFault} f o b.held (Ok u)) e h.held
 
-held_none : {U : Type 0} (P : Range → Type 0) (f : Images → List Write) (m n : List Bool) (a b : Seen) (u : U) → a.held ≡ None
-    → Does P f m n a b (Ok u) → b.held ≡ None
+-- there are none after writes where there were none
+pub held_none : {U : Type 0} (P : Range → Type 0) (f : Images → List Write) (m n : List Bool) (a b : Seen) (u : U) → a.held ≡ None
+    → DoesWrites P f m n a b (Ok u) → b.held ≡ None
 held_none {U = U} P f m n a b u e h = subst (λ o. LeaveImages {A = U} {E = MendFault} f o b.held (Ok u)) e h.held
 
 -- two works, of which the other's writes are the same over the images as they were before
 pub does_next : (A U : Type 0) (P : Range → Type 0) (f g : Images → List Write) (m n o : List Bool) (a b c : Seen) (u : U) (r : Result A MendFault)
-    → ((images : Images) → a.held ≡ Some images → g (fold write_on images (f images)) ≡ g images) → Does P f m n a b (Ok u) → Does P g n o b c r
-    → Does P (λ i. f i ++ g i) m o a c r
+    → ((images : Images) → a.held ≡ Some images → g (fold write_on images (f images)) ≡ g images) → DoesWrites P f m n a b (Ok u) → DoesWrites P g n o b c r
+    → DoesWrites P (λ i. f i ++ g i) m o a c r
 does_next A U P f g m n o a b c u r same h k = by a.held refl
   where
-    by : (held : Option Images) → a.held ≡ held → Does P (λ i. f i ++ g i) m o a c r
+    -- so it is whether images are told or not
+    by : (held : Option Images) → a.held ≡ held → DoesWrites P (λ i. f i ++ g i) m o a c r
     by None e =
         let none = held_none P f m n a b u e h in
         recast (does_then P A U [] [] m n o a b c u r (recast h (λ images e'. absurd (none_some images (sym e ∙ e'))))
@@ -109,10 +104,11 @@ does_next A U P f g m n o a b c u r same h k = by a.held refl
 
 -- a work that came to a halt, and others to come
 pub does_cut : (A B : Type 0) (P : Range → Type 0) (f g : Images → List Write) (m n : List Bool) (a b : Seen) (e : MendFault)
-    → Does {A = A} P f m n a b (Err e) → Does {A = B} P (λ i. f i ++ g i) m n a b (Err e)
+    → DoesWrites {A = A} P f m n a b (Err e) → DoesWrites {A = B} P (λ i. f i ++ g i) m n a b (Err e)
 does_cut A B P f g m n a b x h = by a.held refl
   where
-    by : (held : Option Images) → a.held ≡ held → Does {A = B} P (λ i. f i ++ g i) m n a b (Err x)
+    -- the same for one that came to a halt, whether images are told or not
+    by : (held : Option Images) → a.held ≡ held → DoesWrites {A = B} P (λ i. f i ++ g i) m n a b (Err x)
     by None e = recast {A = B} (does_halt P A B [] [] m n a b x (recast {A = A} h (λ images e'. absurd (none_some images (sym e ∙ e')))))
         (λ images e'. absurd (none_some images (sym e ∙ e')))
     by (Some images) e =
@@ -121,6 +117,7 @@ does_cut A B P f g m n a b x h = by a.held refl
 
 -- ---- with counts
 
+-- writes of two works, or none
 pub if_append : (write : Bool) (xs ys : List Write) → writes_if write xs ++ writes_if write ys ≡ writes_if write (xs ++ ys)
 if_append true xs ys = refl
 if_append false xs ys = refl
@@ -128,7 +125,7 @@ if_append false xs ys = refl
 -- what a work wrote and counted
 pub record IsDone {A : Type 0} (layout : Layout) (write : Bool) (f : Images → List Write) (c : Images → Tally → Tally) (a b : Seen) (t u : Tally)
     (r : Result A MendFault) : Type 0 where
-  pub does : Does (IsOfScrub layout) (λ images. writes_if write (f images)) [] [] (plain a) (plain b) r
+  pub does : DoesWrites (IsOfScrub layout) (λ images. writes_if write (f images)) [] [] (plain a) (plain b) r
   pub counts : OnOk r (IfSome a.held (λ images. u ≡ c images t))
   pub unwritten : write ≡ false → OnlyReads a b
 
@@ -145,6 +142,7 @@ module _ (layout : Layout) (write : Bool) where
   done_as {A = A} f g c d a b t u r same h =
       record { does = recast h.does (λ images e. ap (writes_if write) (same images e).0); counts = by r h.counts; unwritten = h.unwritten }
     where
+      -- the count is the same, said otherwise
       by : (r : Result A MendFault) → OnOk r (IfSome a.held (λ images. u ≡ c images t)) → OnOk r (IfSome a.held (λ images. u ≡ d images t))
       by (Ok x) k = tell a.held (λ images. u ≡ d images t) (λ images e. told a.held (λ images. u ≡ c images t) images e k ∙ (same images e).1)
       by (Err x) k = tt
@@ -160,6 +158,7 @@ module _ (layout : Layout) (write : Bool) where
     unwritten = λ w. reads_more (h.unwritten w) (k.unwritten w);
   }
     where
+      -- the counts of the second go on from those of the first
       by : (r : Result A MendFault) → OnOk r (IfSome b.held (λ images. v ≡ d images u)) → OnOk r (IfSome a.held (λ images. v ≡ d images (c images t)))
       by (Ok y) l = tell a.held (λ images. v ≡ d images (c images t)) (λ images e.
           let after = held_after (IsOfScrub layout) (λ i. writes_if write (f i)) [] [] (plain a) (plain b) x images e h.does in
@@ -179,16 +178,17 @@ module _ (layout : Layout) (write : Bool) where
 
   -- ---- with what waits for a sync
 
-  pub scrubs_as : {A : Type 0} (f g : Images → List Write) (c d : Images → Tally → Tally) (m n : List Bool) (a b : Seen) (t u : Tally) (r : Result A MendFault)
-      → ((images : Images) → a.held ≡ Some images → (f images ≡ g images) × (c images t ≡ d images t)) → Scrubs layout write f c m n a b t u r
+  -- said otherwise
+  pub scrubs_as : {A : Type 0} {f g : Images → List Write} {c d : Images → Tally → Tally} {m n : List Bool} {a b : Seen} {t u : Tally} {r : Result A MendFault}
+      → Scrubs layout write f c m n a b t u r → ((images : Images) → a.held ≡ Some images → (f images ≡ g images) × (c images t ≡ d images t))
       → Scrubs layout write g d m n a b t u r
-  scrubs_as f g c d m n a b t u r same h =
+  scrubs_as {f} {g} {c} {d} {a} {b} {t} {u} {r} h same =
       let k = done_as f g c d a b t u r same (record { does = h.does; counts = h.counts; unwritten = h.unwritten }) in
       record { does = k.does; waits = h.waits; marked = h.marked; stranded = h.stranded; counts = k.counts; unwritten = k.unwritten }
 
+  -- one work behind another
   pub scrubs_then : (A U : Type 0) (f g : Images → List Write) (c d : Images → Tally → Tally) (m n o : List Bool) (a b z : Seen) (t u v : Tally)
-      (x : U) (r : Result A MendFault)
-      → IsUnmoved f g d a.held → Scrubs layout write f c m n a b t u (Ok x) → Scrubs layout write g d n o b z u v r
+      (x : U) (r : Result A MendFault) → IsUnmoved f g d a.held → Scrubs layout write f c m n a b t u (Ok x) → Scrubs layout write g d n o b z u v r
       → Scrubs layout write (λ i. f i ++ g i) (λ i y. d i (c i y)) m o a z t v r
   scrubs_then A U f g c d m n o a b z t u v x r same h k =
       let both = done_then f g c d a b z t u v x r same (record { does = h.does; counts = h.counts; unwritten = h.unwritten })
@@ -205,6 +205,7 @@ module _ (layout : Layout) (write : Bool) where
         unwritten = both.unwritten;
       }
 
+  -- one that came to a halt, before others
   pub scrubs_cut : (A B : Type 0) (f g : Images → List Write) (c d : Images → Tally → Tally) (m n : List Bool) (a b : Seen) (t u : Tally) (x : MendFault)
       → Scrubs {A = A} layout write f c m n a b t u (Err x) → Scrubs {A = B} layout write (λ i. f i ++ g i) d m n a b t u (Err x)
   scrubs_cut A B f g c d m n a b t u x h =
@@ -235,6 +236,7 @@ module _ (layout : Layout) (write : Bool) where
       none true = refl
       none false = refl
 
+  -- nothing was done, and nothing is counted
   pub scrubs_none : {A : Type 0} (marks : List Bool) (a : Seen) (t : Tally) (x : A)
       → Scrubs {A = A} layout write (λ i. []) (λ i y. y) marks marks a a t t (Ok x)
   scrubs_none marks a t x = scrubs_idle (λ y. y) marks a t x
@@ -266,13 +268,16 @@ scrubs_nothing layout write marks a t = record {
 -- what was done for it by its copies, and counted
 module _ (layout : Layout) (write : Bool) (t : Target) (f : Images → List Write) (count : Images → Mended) (into : Tally → Mended → Tally) (m n : List Bool)
     (a b : Seen) (in_stripe : (range : Range) → IsOfCopy t range → LiesInStripe layout range) where
+  -- the writes for it, if writing is on
   abbrev the_writes : Images → List Write
   the_writes images = writes_if write (f images)
 
+  -- a place of one of its copies is a place of a scrub
   abbrev in_scrub : (range : Range) → IsOfCopy t range → IsOfScrub layout range
   in_scrub range of = inr (in_stripe range of)
 
-  pub scrubs_one : (tally tally' : Tally) (mended : Mended) → Does (IsOfCopy t) the_writes m n a b (Ok mended)
+  -- it was mended to its end
+  pub scrubs_one : (tally tally' : Tally) (mended : Mended) → DoesWrites (IsOfCopy t) the_writes m n a b (Ok mended)
       → IfSome a.held (λ images. mended ≡ count images) → (write ≡ false → OnlyReads a b) → tally' ≡ into tally mended
       → Scrubs {A = Unit {0}} layout write f (λ images tally. into tally (count images)) m n a b tally tally' (Ok tt)
   scrubs_one tally tally' mended does counts unwritten e = record {
@@ -286,22 +291,22 @@ module _ (layout : Layout) (write : Bool) (t : Target) (f : Images → List Writ
     unwritten = unwritten;
   }
 
-  pub scrubs_not : (tally : Tally) (fault : MendFault) → Does {A = Mended} (IsOfCopy t) the_writes m n a b (Err fault)
-      → (write ≡ false → OnlyReads a b)
+  -- or a call failed
+  pub scrubs_not : (tally : Tally) (fault : MendFault) → DoesWrites {A = Mended} (IsOfCopy t) the_writes m n a b (Err fault) → (write ≡ false → OnlyReads a b)
       → Scrubs {A = Unit {0}} layout write f (λ images tally. into tally (count images)) m n a b tally tally (Err fault)
   scrubs_not tally fault does unwritten = record {
     does = does_fault {A = Mended} {B = Unit {0}} (IsOfScrub layout) the_writes [] [] (plain a) (plain b) fault
         (does_plain {A = Mended} (IsOfCopy t) (IsOfScrub layout) the_writes m n a b (Err fault) in_scrub does);
     waits = waits_weaker (IsOfCopy t) (LiesInStripe layout) a b in_stripe (waits_at {A = Mended} (IsOfCopy t) the_writes m n a b (Err fault) does);
     marked = marked_after {A = Mended} (IsOfCopy t) the_writes m n a b (Err fault) does;
-    stranded = strands_none {A = Unit {0}} (Err fault) a.never_synced b.never_synced
-        (same_never {A = Mended} (IsOfCopy t) the_writes m n a b (Err fault) does);
+    stranded = strands_none {A = Unit {0}} (Err fault) a.never_synced b.never_synced (same_never {A = Mended} (IsOfCopy t) the_writes m n a b (Err fault) does);
     counts = tt;
     unwritten = unwritten;
   }
 
 -- ---- what can be mended can be mended again
 
+-- blocks can be mended still, behind a call that left the slots, the layout and the loans
 pub can_mend_then : (write : Bool) (a b : Seen) (store store' : Blocks) (m n : List Bool) → CanMend write a store m → b.slots ≡ a.slots
     → SameLoans store store' → Serves b store' → length n ≡ length m → CanMend write b store' n
 can_mend_then write a b store store' m n can slots same serves long = record {

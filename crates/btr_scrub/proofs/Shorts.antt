@@ -1,27 +1,18 @@
 -- The writes for a block have at most as many bytes as their ranges.
 use Rattle.std.proofs.Common.{◌≡◌, ℕ, ◌+◌, ◌-◌, ◌≤◌, Bool, true, false, cond, List, [], ◌∷◌, length, drop, All, Option, nat_lt, Some, None, refl, ap, subst}
 use Rattle.std.proofs.Common.{inl, inr, arith, length-take}
-use Rattle.std.proofs.lemmas.Option.{same_Some}
+use Rattle.btr_scrub.proofs.Common.{Candidate, Failing, HaveLengths, Images, IsSought, Layout, Part, Read, Target, accepted, candidates, device_in, fresh}
+use Rattle.btr_scrub.proofs.Common.{image_of, is_plain, mending_writes, new_bytes, option_map_or, place_at, range_in, range_on, same_Some, size_of}
+use Rattle.btr_scrub.proofs.Common.{stale_parts, stands, value_of}
 use Rattle.std.specs.List.{find}
-use Rattle.std.specs.Option.{option_map_or, unwrap_or}
-use Rattle.btr_chunk.specs.Mapping.{place_at}
-use Rattle.btr_chunk.specs.declared.place.Part.{Part}
-use Rattle.btr_rack.specs.Rack.{bytes_of, image_of, range_in}
+use Rattle.std.specs.Option.{unwrap_or}
+use Rattle.btr_rack.specs.Rack.{bytes_of}
 use Rattle.btr_rack.specs.declared.place.Place.{Place as Range}
-use Rattle.btr_read.specs.Candidates.{Target, candidates, element, range_on, size_of, stands, value_of}
-use Rattle.btr_read.specs.Layout.{Layout, device_in}
+use Rattle.btr_read.specs.Candidates.{element}
 use Rattle.btr_read.specs.Solution.{byte_lists, the_one}
-use Rattle.btr_read.specs.declared.candidate.Candidate.{Candidate}
-use Rattle.btr_read.specs.declared.candidate.Candidate.TheVariants.{Read, ByP, ByQ, ByBoth}
+use Rattle.btr_read.specs.declared.candidate.Candidate.TheVariants.{ByP, ByQ, ByBoth}
 use Rattle.btr_read.proofs.Ones.{all_slices}
-use Rattle.btr_read.specs.Fate.{is_plain}
-use Rattle.btr_scrub_copies.specs.Blocks.{accepted}
-use Rattle.btr_scrub_copies.specs.Writes.{Images}
-use Rattle.btr_scrub_row.specs.Wanted.{mending_writes, new_bytes}
-use Rattle.btr_scrub.specs.Devices.{HaveLengths}
 use Rattle.btr_scrub.specs.BlocksInRows.{In}
-use Rattle.btr_scrub.specs.Order.{IsSought}
-use Rattle.btr_scrub_copies.specs.Fresh.{Failing, fresh, stale_parts}
 use Rattle.btr_scrub.proofs.CopyWrites.{first_of, fresh_from, is_there}
 use Rattle.btr_scrub.proofs.Pasting.{Short}
 use Rattle.btr_scrub.proofs.OwnPlaces.{is_over}
@@ -29,6 +20,7 @@ use Rattle.btr_scrub.proofs.Lists.{all_from}
 
 -- ---- what is accepted is no longer than what is sought
 
+-- what is found among short lists is short, and so is nothing
 find_short : (n : ℕ) (p : List ℕ → Bool) (xs : List (List ℕ)) → ((x : List ℕ) → In x xs → length x ≤ n) → length (unwrap_or (find p xs) []) ≤ n
 find_short n p [] h = omega arith
 find_short n p (x ∷ xs) h = by (p x) (find_short n p xs (λ y i. h y (inr i)))
@@ -37,32 +29,39 @@ find_short n p (x ∷ xs) h = by (p x) (find_short n p xs (λ y i. h y (inr i)))
     by true rest = h x (inl refl)
     by false rest = rest
 
+-- the one slice that passes a test is no longer than a slice
 the_one_short : (n : ℕ) (p : List ℕ → Bool) → length (the_one n p) ≤ n
 unfolding the_one
 the_one_short n p = find_short n p (byte_lists n) (λ x i. omega (arith, (all_slices n x i).long))
 
+-- the bytes of a range are at most as many as its length
 range_short : (images : Images) (slot off len : ℕ) → length (bytes_of images slot off len) ≤ len
 range_short images slot off len = omega (arith, length-take (off + len - off) (drop off (image_of images slot)))
 
+-- what stands at a part of a block is no longer than the block
 element_short : (images : Images) (t : Target) (part : Part) → length (element images t part) ≤ size_of t
 element_short images t part = by (device_in t.devices (place_at t.chunk part t.at).devid)
   where
+    -- so it is whether the range lies in the device or not
     or : (b : Bool) (slot off : ℕ) → length (option_map_or (λ (range : Range). bytes_of images range.slot range.off range.len)
         (cond b (Some (range_in slot off (size_of t))) None) []) ≤ size_of t
     or true slot off = range_short images slot off (size_of t)
     or false slot off = omega arith
 
+    -- so it is whether the device is there or not
     by : (o : Option _) → length (option_map_or (λ (range : Range). bytes_of images range.slot range.off range.len)
         (range_on (place_at t.chunk part t.at).offset (size_of t) o) []) ≤ size_of t
     by None = omega arith
     by (Some device) = or _ device.slot (place_at t.chunk part t.at).offset
 
+-- what a candidate gives is no longer than the block
 value_short : (images : Images) (t : Target) (c : Candidate) → length (value_of images t c) ≤ size_of t
 value_short images t (Read part) = element_short images t part
 value_short images t ByP = the_one_short (size_of t) _
 value_short images t ByQ = the_one_short (size_of t) _
 value_short images t (ByBoth j) = the_one_short (size_of t) _
 
+-- what is accepted for a block is no longer than it
 accepted_short : (images : Images) (t : Target) (bytes : List ℕ) → accepted images t ≡ Some bytes → length bytes ≤ size_of t
 accepted_short images t bytes e =
     let f = first_of images t (candidates t) bytes e in
@@ -84,6 +83,7 @@ module _ (images : Images) (layout : Layout) (lengths : HaveLengths images layou
       by true false e = cc
       by false c e = accepted_short images t bytes e
 
+  -- each write for a block fits
   pub site_short : All (Short images) (mending_writes images fails t)
   site_short = all_from (Short images) (mending_writes images fails t) (λ w i.
       let o = is_over images fails t w i in

@@ -1,39 +1,23 @@
 -- Calls that list blocks and sift them, one after another.
 use Rattle.std.proofs.Common.{◌≡◌, ℕ, List, [], ◌++◌, Option, Some, None, Result, Ok, Err, IsErrAnd, refl, sym, ap, ◌∙◌, subst, arith}
 use Rattle.std.specs.Prelude.{fold}
-use Rattle.btr_prog.specs.Answers.{Broke, Follows, no_part}
+use Rattle.btr_scrub.proofs.Common.{AccountsMend, Follows, Gathered, Gathers, HasKeptOf, HasPassed, Image, IsList, Layout, LiesInStripe, Map, Meeting, Memory}
+use Rattle.btr_scrub.proofs.Common.{MendFault, OnlyReads, SameVolume, Scene, Seen, Serves, SumKind, Super, Tally, Tells, Volume, bind, count_met, exec}
+use Rattle.btr_scrub.proofs.Common.{kept_wants, no_part, reads_more, same_held, scene, steps_of, unread_by, wants_among}
+use Rattle.btr_prog.specs.Answers.{Broke}
 use Rattle.btr_prog.specs.Calls.{Sure}
-use Rattle.btr_prog.specs.Prog.{bind, exec, steps_of}
 use Rattle.btr_prog.proofs.Follow.{broke_here}
-use Rattle.btr_rack.specs.Rack.{OnlyReads, Seen}
-use Rattle.btr_rack.proofs.Reading.{reads_more}
 use Rattle.btr_read.specs.Fate as fate
-use Rattle.btr_read.specs.Layout.{Layout}
 use Rattle.btr_read.specs.Reading.{OnMap}
-use Rattle.btr_read.specs.Serves.{Serves}
-use Rattle.btr_read.proofs.ReadsOn.{same_held}
-use Rattle.btr_walk.specs.Reading.{Map, Tells, unread_by}
 use Rattle.btr_walk.specs.declared.fault.TreeFault.TheVariants as tree
 use Rattle.btr_walk.proofs.Joined.{joined}
-use Rattle.btr_base.specs.declared.kind.SumKind.{SumKind}
-use Rattle.btr_super.specs.declared.superblock.Super.{Super}
-use Rattle.btr_volume.specs.Looking.{SameVolume}
 use Rattle.btr_volume.specs.Stops.{ended}
 use Rattle.btr_volume.specs.declared.stop.Stop.{Stop}
 use Rattle.btr_volume.specs.declared.stop.Stop.TheVariants as stop
-use Rattle.btr_volume.specs.declared.volume.Volume.{Volume}
-use Rattle.btr_scrub_copies.specs.Writes.{AccountsMend, FailsAt}
-use Rattle.btr_scrub_copies.specs.declared.mended.MendFault.{MendFault}
-use Rattle.btr_scrub_copies.specs.declared.mended.MendFault.TheVariants.{Image, Memory}
-use Rattle.btr_scrub.specs.Gathering.{Gathers, Reaches, Scene, count_met, scene, wants_among}
-use Rattle.btr_scrub.specs.WrittenRanges.{LiesInStripe}
-use Rattle.btr_scrub.specs.Listed.{IsList, kept_wants}
-use Rattle.btr_scrub.specs.Sifting.{ImageFails, Judges, Sieves, SiftsUnits, Stands, Went}
-use Rattle.btr_scrub.specs.Units.{Meeting}
+use Rattle.btr_scrub_copies.specs.Writes.{FailsAt}
+use Rattle.btr_scrub.specs.Sifting.{ImageFails, Judges, Sieves, SiftsUnits, Went}
 use Rattle.btr_scrub.specs.Whole.{answer_of}
-use Rattle.btr_scrub.specs.declared.gathered.Gathered.{Gathered}
 use Rattle.btr_scrub.specs.declared.sieve.Sieve.{Sieve}
-use Rattle.btr_scrub.specs.declared.tally.Tally.{Tally}
 use Rattle.btr_scrub.proofs.Gathering.{gathers_halt, gathers_then, reaches_ends, same_then}
 use Rattle.btr_scrub.proofs.Lists.{passed}
 use Rattle.btr_scrub.proofs.Sieving.{both, is_behind}
@@ -53,6 +37,7 @@ abbrev pub behind : Gathered → Gathered → Gathered
 behind whole more = record { list = both whole.list more.list; unchecked = more.unchecked }
 
 module _ {A : Type 0} (p : Meeting A) (a b : Seen) (vol after : Volume) (empty whole more : Gathered) where
+  -- what was listed anew was listed behind what there was
   pub gathers_behind : (x : A) → kept_wants empty.list ≡ [] → empty.list.kind ≡ whole.list.kind → empty.unchecked ≡ whole.unchecked → IsList whole.list
       → Gathers p (scene a vol empty) (scene b after more) (Ok x) → Gathers p (scene a vol whole) (scene b after (behind whole more)) (Ok x)
   gathers_behind x none kind unchecked is h =
@@ -72,6 +57,7 @@ module _ {A : Type 0} (p : Meeting A) (a b : Seen) (vol after : Volume) (empty w
         cause = h.cause;
       }
 
+  -- a stop is the same, whatever was listed before
   pub stop_behind : (s : Stop) → Gathers p (scene a vol empty) (scene b after more) (Err s) → Gathers p (scene a vol whole) (scene b after more) (Err s)
   stop_behind s h = record { reads = h.reads; volume = h.volume; serves = h.serves; done = h.done; lists = tt; content = h.content; cause = h.cause }
 
@@ -79,6 +65,7 @@ module _ {A : Type 0} (p : Meeting A) (a b : Seen) (vol after : Volume) (empty w
 
 module _ {A : Type 0} (p : Meeting A) (a b z : Seen) (vol after last : Volume) (list more : Gathered) (reads : OnlyReads b z) (same : SameVolume after last)
     (serves : Serves z last.store) (x : A) (h : Gathers p (scene a vol list) (scene b after more) (Ok x)) where
+  -- reads that followed change nothing of it
   pub gathers_later : Gathers p (scene a vol list) (scene z last more) (Ok x)
   gathers_later = record {
     reads = reads_more h.reads reads;
@@ -92,6 +79,7 @@ module _ {A : Type 0} (p : Meeting A) (a b z : Seen) (vol after last : Volume) (
     cause = tt;
   }
 
+  -- where memory ran out behind it, that is the stop
   pub gathers_broke : Gathers p (scene a vol list) (scene z last more) (Err stop.Memory)
   gathers_broke = record {
     reads = reads_more h.reads reads;
@@ -123,8 +111,7 @@ module _ {A : Type 0} (p : Meeting A) (a b z : Seen) (vol after last : Volume) (
 
 -- a stop of the listing
 went_stop : {A : Type 0} (p : Meeting A) (x : Scene) (rack : Seen) (vol : Volume) (sieve : Sieve) (list : Gathered) (s : Stop) → Gathers p x
-    (scene rack vol list) (Err s)
-    → Went p x rack vol sieve (Err s)
+    (scene rack vol list) (Err s) → Went p x rack vol sieve (Err s)
 went_stop p x rack vol sieve list (stop.NoTree id) h = (list, h)
 went_stop p x rack vol sieve list (stop.Tree f) h = (list, h)
 went_stop p x rack vol sieve list (stop.Deletion id) h = (list, h)
@@ -136,10 +123,12 @@ went_stop p x rack vol sieve list stop.Out h = (list, h)
 went_stop p x rack vol sieve list stop.Memory h = (list, h)
 
 module _ {A : Type 0} (p : Meeting A) (x : Scene) (rack : Seen) (vol : Volume) (sieve : Sieve) (list : Gathered) where
+  -- a stop as blocks are listed is one as they are sifted
   pub sieves_stop : (s : Stop) → Gathers p x (scene rack vol list) (Err s) → Sieves p x rack vol sieve (Err s)
   sieves_stop s h = record { reads = h.reads; volume = h.volume; serves = h.serves; went = went_stop p x rack vol sieve list s h }
 
-  pub sieves_ok : (a : A) → Gathers p x (scene rack vol list) (Ok a) → Stands x.vol.store.layout rack.held list sieve → Sieves p x rack vol sieve (Ok a)
+  -- so is an end, where the list was sifted
+  pub sieves_ok : (a : A) → Gathers p x (scene rack vol list) (Ok a) → HasKeptOf x.vol.store.layout rack.held list sieve → Sieves p x rack vol sieve (Ok a)
   sieves_ok a h stands = record { reads = h.reads; volume = h.volume; serves = h.serves; went = (list, h, stands) }
 
 -- what was done behind a fault was done where it is passed on
@@ -147,6 +136,7 @@ pub sieves_passed : {A : Type 0} {p : Meeting A} {x : Scene} {rack : Seen} {vol 
     → IsErrAnd r (λ e. e ≡ halt) → Sieves p x rack vol sieve (Err halt) → Sieves p x rack vol sieve r
 sieves_passed {p = p} {x = x} {rack = rack} {vol = vol} {sieve = sieve} {r = r} {halt = halt} is h = passed (λ r. Sieves p x rack vol sieve r) r halt is h
 
+-- the stops of two answers that are the same are the same
 same_stop : (s t : Stop) → ◌≡◌ {A = Result Tally Stop} (Err s) (Err t) → s ≡ t
 same_stop s t e = cc e
 
@@ -170,13 +160,15 @@ sieves_fault p a b z vol after last list more sieve x h reads same serves Memory
 
 -- ---- one after another
 
+-- an image that failed behind reads failed behind those before them, too
 fails_since : (layout layout' : Layout) (slot : ℕ) (a b c : Seen) → layout' ≡ layout → OnlyReads a b → ImageFails layout' slot b c → ImageFails layout slot a c
 fails_since layout layout' slot a b c e reads h =
     record { mid = h.mid; before = reads_more reads h.before; reads = h.reads; failed = subst (λ l. FailsAt (LiesInStripe l) slot h.mid c) e h.failed }
 
 module _ {A C : Type 0} (p : Meeting A) (k : A → Meeting C) (x y : Scene) (a : A) (h : Gathers p x y (Ok a)) (rack : Seen) (vol : Volume) (sieve : Sieve) where
+  -- what came of the second, behind the first, came of both
   went_then : (r : Result C Stop) → Went (k a) y rack vol sieve r → Went (bind p k) x rack vol sieve r
-  went_then (Ok c) w = (w.0, gathers_then p k x y (scene rack vol w.0) a (Ok c) h w.1, subst (λ l. Stands l rack.held w.0 sieve) h.volume.store.layout w.2)
+  went_then (Ok c) w = (w.0, gathers_then p k x y (scene rack vol w.0) a (Ok c) h w.1, subst (λ l. HasKeptOf l rack.held w.0 sieve) h.volume.store.layout w.2)
   went_then (Err (stop.NoTree id)) w = (w.0, gathers_then p k x y (scene rack vol w.0) a (Err (stop.NoTree id)) h w.1)
   went_then (Err (stop.Tree f)) w = (w.0, gathers_then p k x y (scene rack vol w.0) a (Err (stop.Tree f)) h w.1)
   went_then (Err (stop.Deletion id)) w = (w.0, gathers_then p k x y (scene rack vol w.0) a (Err (stop.Deletion id)) h w.1)
@@ -187,11 +179,13 @@ module _ {A C : Type 0} (p : Meeting A) (k : A → Meeting C) (x y : Scene) (a :
   went_then (Err stop.Out) w = (w.0, gathers_then p k x y (scene rack vol w.0) a (Err stop.Out) h w.1)
   went_then (Err stop.Memory) w = (w.0, gathers_then p k x y (scene rack vol w.0) a (Err stop.Memory) h w.1)
 
+  -- both were done
   pub sieves_then : (r : Result C Stop) → Sieves (k a) y rack vol sieve r → Sieves (bind p k) x rack vol sieve r
   sieves_then r s = record { reads = reads_more h.reads s.reads; volume = same_then h.volume s.volume; serves = s.serves; went = went_then r s.went }
 
-module _ {A C : Type 0} (p : Meeting C) (q : Meeting A) (k : A → Meeting C) (x y : Scene) (h : Reaches p (bind q k) x y) (rack : Seen) (vol : Volume)
+module _ {A C : Type 0} (p : Meeting C) (q : Meeting A) (k : A → Meeting C) (x y : Scene) (h : HasPassed p (bind q k) x y) (rack : Seen) (vol : Volume)
     (sieve : Sieve) where
+  -- a stop of the first is the stop of the whole
   went_halt : (s : Stop) → Went q y rack vol sieve (Err s) → Went p x rack vol sieve (Err s)
   went_halt (stop.NoTree id) w =
       (w.0, reaches_ends p (bind q k) x y (scene rack vol w.0) (Err (stop.NoTree id)) h (gathers_halt q k y (scene rack vol w.0) (stop.NoTree id) w.1))
@@ -209,15 +203,17 @@ module _ {A C : Type 0} (p : Meeting C) (q : Meeting A) (k : A → Meeting C) (x
   went_halt stop.Memory w =
       (w.0, reaches_ends p (bind q k) x y (scene rack vol w.0) (Err stop.Memory) h (gathers_halt q k y (scene rack vol w.0) stop.Memory w.1))
 
+  -- the first came to a stop
   pub sieves_halt : (s : Stop) → Sieves q y rack vol sieve (Err s) → Sieves p x rack vol sieve (Err s)
   sieves_halt s v = record { reads = reads_more h.reads v.reads; volume = same_then h.volume v.volume; serves = v.serves; went = went_halt s v.went }
 
 -- ---- the same of other parts
 
+-- what stands over a layout and images stands over the same ones
 pub stands_as : (layout layout' : Layout) (a b : Seen) (whole : Gathered) (sieve : Sieve) → layout' ≡ layout → b.held ≡ a.held
-    → Stands layout a.held whole sieve
-    → Stands layout' b.held whole sieve
-stands_as layout layout' a b whole sieve e held h = subst (λ o. Stands layout' o whole sieve) (sym held) (subst (λ l. Stands l a.held whole sieve) (sym e) h)
+    → HasKeptOf layout a.held whole sieve → HasKeptOf layout' b.held whole sieve
+stands_as layout layout' a b whole sieve e held h =
+    subst (λ o. HasKeptOf layout' o whole sieve) (sym held) (subst (λ l. HasKeptOf l a.held whole sieve) (sym e) h)
 
 -- the superblock and the layout as they were before calls that left them
 pub sieves_as : {A : Type 0} (p : Super → Layout → Meeting A) (s t : Super) (layout layout' : Layout) (x : Scene) (rack : Seen) (vol : Volume) (sieve : Sieve)
@@ -231,10 +227,12 @@ sieves_as p s t layout layout' x rack vol sieve r e h k = subst (λ l. Sieves (p
 abbrev pub nothing_listed : SumKind → Gathered
 nothing_listed kind = record { list = record { kind = kind; runs = []; sums = []; marks = [] }; unchecked = 0 }
 
+-- a list of nothing is one
 pub nothing_is : (kind : SumKind) → IsList (nothing_listed kind).list
 nothing_is kind = record { runs_fit = tt; sums_fit = omega arith; marks_fit = refl }
 
 module _ (p : Meeting (Unit {0})) (a b : Seen) (vol after : Volume) (kind : SumKind) (sieve : Sieve) where
+  -- all was sifted
   pub sifted_all : Sieves p (scene a vol (nothing_listed kind)) b after sieve (Ok tt) → SiftsUnits p vol.store.layout a b (Ok sieve)
   sifted_all s =
       let w = s.went in (
@@ -247,6 +245,7 @@ module _ (p : Meeting (Unit {0})) (a b : Seen) (vol after : Volume) (kind : SumK
         w.1.content,
       )
 
+  -- or it came to a stop
   pub sifted_none : (s : Stop) → Sieves p (scene a vol (nothing_listed kind)) b after sieve (Err s) → SiftsUnits p vol.store.layout a b (Err s)
   sifted_none (stop.NoTree id) s = (s.went.1.done, s.went.1.content, s.went.1.cause)
   sifted_none (stop.Tree f) s = (s.went.1.done, s.went.1.content, s.went.1.cause)

@@ -3,71 +3,46 @@ use Rattle.std.proofs.Common.{◌≡◌, ℕ, ◌+◌, Bool, true, false, cond, 
 use Rattle.std.proofs.Common.{Ok, Err, refl, sym, ap, ◌∙◌, ◌⊎◌, ◌≢◌, get_or, slice_get, subst, inl, inr, arith, zero, suc, is_some, ◌*◌, ◌^◌, ◌<◌, ◌≤◌, not}
 use Rattle.std.proofs.Common.{◌&&◌, IfSome, drop, append_assoc, append-nil, length-append}
 use Rattle.std.proofs.Math.Nat.{suc-mul}
-use Rattle.std.proofs.lemmas.List.{length-drop}
+use Rattle.btr_scrub.proofs.Common.{AccountsMend, AddsAll, AreApart, AreOfKind, AreUpTo, CanSift, Chunk, Fault, Gathered, HasKeptOf, HasRooms, Image, Images}
+use Rattle.btr_scrub.proofs.Common.{IsFirstRefused, IsList, IsSought, IsTable, KeptBlocks, Layout, LiesInChunk, LiesInStripe, Memory, MendFault, Mended}
+use Rattle.btr_scrub.proofs.Common.{Mirror, Plain, Sector, Seen, ShareNoRow, Sifts, SiftsNext, Span, SumKind, Target, TreeFault, Want, addr_of, and_from}
+use Rattle.btr_scrub.proofs.Common.{and_parts, chunk_at, cons_option, false≢true, filter, first_missing, flagged, has_older, holds, in_either, in_left}
+use Rattle.btr_scrub.proofs.Common.{in_right, is_checked, is_copy_needed, is_in_row, is_needed, is_plain, is_row_needed, kept_wants, le-leb, leb-true, len_of}
+use Rattle.btr_scrub.proofs.Common.{length-drop, mended_of, mirrors, ok_or_none, option_map_or, plains_from, slice_get_within, sought, sought_of, stood}
+use Rattle.btr_scrub.proofs.Common.{sum_by-cons, sum_size, targets}
 use Rattle.std.proofs.lemmas.List.Elements.{filter-append}
-use Rattle.std.proofs.lemmas.List.Sums.{sum_by-append, sum_by-cons}
+use Rattle.std.proofs.lemmas.List.Sums.{sum_by-append}
 use Rattle.std.specs.Prelude.{count_by}
-use Rattle.std.specs.List.{cons_option, filter}
-use Rattle.std.specs.Option.{option_map_or}
-use Rattle.btr_base.specs.Sum.{sum_size}
-use Rattle.btr_base.specs.declared.kind.SumKind.{SumKind}
-use Rattle.btr_read.specs.Want.{addr_of, len_of}
-use Rattle.btr_walk.specs.declared.fault.TreeFault.{TreeFault}
 use Rattle.btr_read.specs.declared.setting.Setting.{Setting}
-use Rattle.btr_read.specs.declared.want.Want.TheVariants.{Block, Plain, Sector, Tree}
-use Rattle.btr_scrub_copies.specs.Fresh.{flagged}
-use Rattle.btr_scrub_row.specs.Wanted.{is_checked}
-use Rattle.btr_scrub.specs.Judging.{IsFirstRefused}
-use Rattle.btr_scrub.specs.Listed.{AddsAll, AreOfKind, AreRuns, IsList, IsOfKind, IsRun, Kept, PassesPlain, all_sectors, kept_wants, plains_from, run_wants}
+use Rattle.btr_read.specs.declared.want.Want.TheVariants.{Block, Tree}
+use Rattle.btr_scrub.specs.Listed.{AreRuns, IsOfKind, IsRun, PassesPlain, all_sectors, run_wants}
 use Rattle.btr_scrub.specs.Listed.{sectors_from, sectors_of, trees_of, wants_of}
-use Rattle.btr_scrub.specs.Order.{AreApart, AreBetween, AreUpTo, IsSought, targets}
+use Rattle.btr_scrub.specs.Order.{AreBetween}
 use Rattle.btr_scrub.specs.BlocksInRows.{In}
 use Rattle.btr_scrub.specs.declared.run.Run.{Run}
 use Rattle.btr_scrub.specs.declared.run.RunKind.{RunKind}
 use Rattle.btr_scrub.specs.declared.run.RunKind.TheVariants.{TreeBlock, Sectors, Unsummed}
 use Rattle.btr_scrub.specs.declared.run.TreeMark.{TreeMark}
-use Rattle.btr_scrub.specs.declared.extent.Span.{Span}
-use Rattle.btr_scrub.specs.declared.gathered.Gathered.{Gathered}
 use Rattle.btr_scrub.specs.declared.sieve.Sieve.{Sieve}
 use Rattle.btr_scrub.specs.declared.sifted.Sifted.{Sifted}
 use Rattle.btr_scrub.proofs.Listing.{runs_both, sectors_both, times_sum, trees_both, wants_both}
 use Rattle.btr_scrub.proofs.Scrubbing.{tell, told}
 use Rattle.btr_scrub.proofs.Unitwise.{between_more}
-use Rattle.std.proofs.lemmas.Bool.{false≢true, and_from, and_parts, le-leb, leb-true}
-use Rattle.btr_chunk.specs.Chunk.{mirrors}
-use Rattle.btr_chunk.specs.Mapping.{holds}
-use Rattle.btr_chunk.specs.Table.{IsTable, chunk_at}
-use Rattle.btr_chunk.specs.declared.chunk.Chunk.{Chunk}
-use Rattle.btr_chunk.specs.declared.place.Part.TheVariants.{Mirror}
-use Rattle.btr_rack.specs.Rack.{Seen}
-use Rattle.btr_read.specs.Candidates.{Target}
-use Rattle.btr_read.specs.Fate.{Fault, is_plain, sought}
-use Rattle.btr_read.specs.Layout.{Layout}
-use Rattle.btr_read.specs.declared.want.Want.{Want}
-use Rattle.btr_read.proofs.Fates.{sought_of}
-use Rattle.btr_read.proofs.Ones.{in_either, in_left, in_right}
-use Rattle.btr_scrub_copies.specs.Mending.{IsCopied, IsOfCopy, mended_of}
-use Rattle.btr_scrub_copies.specs.Writes.{AccountsMend, Images}
-use Rattle.btr_scrub_copies.specs.declared.mended.MendFault.{MendFault}
-use Rattle.btr_scrub_copies.specs.declared.mended.MendFault.TheVariants.{Image, Memory}
-use Rattle.btr_scrub_copies.specs.declared.mended.Mended.{Mended}
-use Rattle.btr_scrub.specs.Judged.{has_older}
-use Rattle.btr_scrub.specs.WrittenRanges.{LiesInChunk, LiesInStripe}
-use Rattle.btr_scrub.specs.Repair.{first_missing, is_in_row, ok_or_none, stood}
+use Rattle.std.proofs.Math.Bool.{and-false, and-true}
+use Rattle.btr_scrub_copies.specs.Mending.{IsCopied, IsOfCopy}
 use Rattle.btr_scrub.specs.Scanning.{IsSpanIn}
-use Rattle.btr_scrub.specs.Scrubbing.{HasRooms}
-use Rattle.btr_scrub.specs.Sifting.{AreSifted, CanSift, IsBehind, Judges, PassesInert, ShareNoRow, Sifts, SiftsNext, Stands, is_copy_needed, is_left_out}
-use Rattle.btr_scrub.specs.Sifting.{is_needed, is_row_needed, is_unsound, kept_of, left_out, lies_in, needs, row_among}
+use Rattle.btr_scrub.specs.Sifting.{AreSifted, ContinuesList, Judges, PassesInert, is_left_out}
+use Rattle.btr_scrub.specs.Sifting.{is_unsound, kept_of, left_out, lies_in, needs, row_among}
 use Rattle.btr_scrub.proofs.AcrossChunks.{sum_same}
 use Rattle.btr_scrub.proofs.Agreeing.{filter_same}
-use Rattle.btr_scrub.proofs.Blockwise.{all_behind, chunk_same, filter_all, filter_none, of_targets, part_is_given, target_sought, targets_both}
-use Rattle.btr_scrub.proofs.RowNumbers.{row_is_not, sought_each}
+use Rattle.btr_scrub.proofs.Blockwise.{all_behind, chunk_same, of_targets, part_is_given, target_sought, targets_both}
+use Rattle.btr_scrub.proofs.RowNumbers.{IsParityChunk, row_is_not, sought_each}
 use Rattle.btr_scrub.proofs.Sums.{sum_zero}
 use Rattle.btr_scrub.proofs.Positions.{alone_lies, copy_in_stripe, find_at, is_sought, bounds_of}
-use Rattle.std.proofs.lemmas.Option.{slice_get_within}
 use Rattle.btr_scrub.proofs.Lists.{any_at, at_in, in_of, some_if, some_of, in_more}
 use Rattle.btr_scrub.proofs.Refusing.{refused_behind, upto_more}
 use Rattle.btr_scrub.proofs.OneSector.{stored_again}
+use Rattle.btr_scrub.proofs.Grouping.{filter_all, filter_first, filter_later, filter_none}
 
 -- a block with copies all of which are given can be looked at
 pub sought_copied : (layout : Layout) (want : Want) (t : Target) → IsTable layout.chunks → first_missing layout ≡ None → sought layout want ≡ Ok t
@@ -97,6 +72,7 @@ copies_in_stripe layout want t a b (Err (Image slot)) table e h =
 
 -- what is needed, by what was found
 module _ (images : Images) (layout : Layout) (t : Target) where
+  -- a checked block is needed where a copy is bad, or all are lost
   pub needed_block : is_plain t.want ≡ false → (mended : Mended) → mended ≡ mended_of images t false
       → is_copy_needed images layout t ≡ (ltb 0 mended.bad || mended.lost)
   needed_block checked mended is = ap (λ b. cond b (has_older layout.devices t.chunk) (is_unsound images t)) checked
@@ -111,10 +87,12 @@ module _ (images : Images) (layout : Layout) (t : Target) where
 -- ---- lists of blocks
 
 module _ (layout : Layout) where
+  -- blocks between two addresses lie, in two parts, before and behind a third
   pub between_parts : (a c : ℕ) (xs ys : List Want) → AreBetween layout a c (xs ++ ys) → (b : ℕ) × AreBetween layout a b xs × AreBetween layout b c ys
   between_parts a c [] ys h = (a, omega arith, h)
   between_parts a c (x ∷ xs) ys h = let r = between_parts (addr_of x + len_of layout.setting x) c xs ys h.2 in (r.0, (h.0, h.1, r.1), r.2)
 
+  -- blocks up to an address lie before it
   pub upto_between : (a b : ℕ) (xs : List Want) → AreUpTo layout a b xs → AreBetween layout a b xs
   upto_between a b [] h = omega (arith, h)
   upto_between a b (x ∷ xs) h = (h.0, h.1, upto_between (addr_of x + len_of layout.setting x) b xs h.2)
@@ -125,6 +103,7 @@ module _ (layout : Layout) where
   refused_before a (x ∷ xs) ys f (inl here) = inl here
   refused_before a (x ∷ xs) ys f (inr later) = inr (later.0, refused_before (addr_of x + len_of layout.setting x) xs ys f later.1)
 
+  -- their ends are in order
   pub between_le : (a c : ℕ) (xs : List Want) → AreBetween layout a c xs → a ≤ c
   between_le a c [] h = h
   between_le a c (x ∷ xs) h = omega (arith, h.0, between_le (addr_of x + len_of layout.setting x) c xs h.2)
@@ -152,33 +131,31 @@ module _ (images : Images) (layout : Layout) (wants : List Want) where
   abbrev ts : List Target
   ts = targets layout wants
 
+  -- where all are needed, all are kept
   kept_whole : ((t : Target) → In t ts → is_needed images layout ts t ≡ true) → kept_of images layout wants ≡ wants
   kept_whole all = filter_all (needs images layout ts) wants (λ w i. by w i (sought layout w) refl)
     where
+      -- each want is needed, whether it has a position or not
       by : (w : Want) → In w wants → (r : Result Target Fault) → sought layout w ≡ r → needs images layout ts w ≡ true
       by w i (Err f) e = ap (λ r. option_map_or (is_needed images layout ts) (ok_or_none r) true) e
       by w i (Ok t) e = ap (λ r. option_map_or (is_needed images layout ts) (ok_or_none r) true) e ∙ all t (in_targets layout w t wants i e)
 
+  -- and none is left out
   left_none : ((t : Target) → In t ts → is_needed images layout ts t ≡ true) → left_out images layout wants ≡ 0
-  left_none all = sum_zero (λ t. cond (is_left_out images layout ts t) 1 0) ts (λ t i. ap (λ b. cond (is_checked t && not b) 1 0) (all t i) ∙ by (is_checked t))
-    where
-      by : (b : Bool) → ◌≡◌ {A = ℕ} (cond (b && false) 1 0) 0
-      by true = refl
-      by false = refl
+  left_none all = sum_zero (λ t. cond (is_left_out images layout ts t) 1 0) ts (λ t i. ap (λ b. cond (is_checked t && not b) 1 0) (all t i)
+      ∙ ap (λ b. cond b 1 0) (and-false (is_checked t)))
 
   module _ (none : (t : Target) → In t ts → is_needed images layout ts t ≡ false) where
+    -- none is kept
     kept_none : ((w : Want) → In w wants → (t : Target) × (sought layout w ≡ Ok t)) → kept_of images layout wants ≡ []
     kept_none placed = filter_none (needs images layout ts) wants (λ w i.
         let t = placed w i in
         ap (λ r. option_map_or (is_needed images layout ts) (ok_or_none r) true) t.1 ∙ none t.0 (in_targets layout w t.0 wants i t.1))
 
+    -- all that are checked are left out
     left_checked : left_out images layout wants ≡ count_by is_checked ts
     left_checked = sum_same (λ t. cond (is_left_out images layout ts t) 1 0) (λ t. cond (is_checked t) 1 0) ts
-        (λ t i. ap (λ b. cond (is_checked t && not b) 1 0) (none t i) ∙ by (is_checked t))
-      where
-        by : (b : Bool) → ◌≡◌ {A = ℕ} (cond (b && true) 1 0) (cond b 1 0)
-        by true = refl
-        by false = refl
+        (λ t i. ap (λ b. cond (is_checked t && not b) 1 0) (none t i) ∙ ap (λ b. cond b 1 0) (and-true (is_checked t)))
 
 -- ---- lists that share no full stripe
 
@@ -194,44 +171,51 @@ module _ (layout : Layout) (table : IsTable layout.chunks) where
           (needed_copy images layout t ts (subst IsSome (sym e) refl))
       by None e =
           let p = is_in_row t.chunk t.at.row in
-          let not_in = λ (u : Target) (i : In u us ⊎ In u vs). row_is_not layout table is.number t.chunk is.there e t.at.row u (are u (in_both u us vs i))
+          let of : IsParityChunk layout is.number t.chunk = record { table = table; there = is.there; parity = e } in
+          let not_in = λ (u : Target) (i : In u us ⊎ In u vs). row_is_not of t.at.row u (are u (in_both u us vs i))
           (λ same row. apart u i (sym same) e (sym row)) in
           ap (λ bs. cond (is_none (mirrors t.chunk))
-          (is_row_needed images layout (record { chunk = t.chunk; number = t.at.row; blocks = bs; failing = flagged [] }))
-          (is_copy_needed images layout t))
-          (filter-append p us (ts ++ vs) ∙ ap (λ xs. xs ++ filter p (ts ++ vs)) (filter_none p us (λ u i. not_in u (inl i)))
-          ∙ filter-append p ts vs ∙ ap (λ xs. filter p ts ++ xs) (filter_none p vs (λ u i. not_in u (inr i))) ∙ append-nil (filter p ts))
+          (is_row_needed images layout (record { chunk = t.chunk; number = t.at.row; blocks = bs; failing = flagged [] })) (is_copy_needed images layout t))
+          (filter_later p us (ts ++ vs) (λ u i. not_in u (inl i)) ∙ filter_first p ts vs (λ u i. not_in u (inr i)))
         where
+          -- a member of one of two lists is one of both together
           in_both : (u : Target) (xs ys : List Target) → In u xs ⊎ In u ys → In u (xs ++ ys)
           in_both u xs ys (inl i) = in_left u xs ys i
           in_both u xs ys (inr i) = in_right u xs ys i
 
   module _ (images : Images) (xs ys : List Want) (share : ShareNoRow layout xs ys) where
+    -- the blocks of both lists
     abbrev both_ts : List Target
     both_ts = targets layout (xs ++ ys)
 
+    -- they are those of the first, and behind them those of the last
     are_both : both_ts ≡ targets layout xs ++ targets layout ys
     are_both = targets_both layout xs ys
 
+    -- whether one of the first is needed hangs on the first alone
     first_needed : (t : Target) → In t (targets layout xs) → is_needed images layout both_ts t ≡ is_needed images layout (targets layout xs) t
     first_needed t i = ap (λ ts. is_needed images layout ts t) are_both
         ∙ alone_needed images t (targets layout xs) [] (targets layout ys) (target_sought layout xs t i) (target_sought layout ys)
         (λ u j same none. apart u j same none)
       where
+        -- none of the last lies in its full stripe
         apart : (u : Target) → In u [] ⊎ In u (targets layout ys) → t.chunk ≡ u.chunk → mirrors t.chunk ≡ None → t.at.row ≢ u.at.row
         apart u (inl j) same none = absurd j
         apart u (inr j) same none = share t u i j same none
 
+    -- whether one of the last is hangs on the last
     later_needed : (t : Target) → In t (targets layout ys) → is_needed images layout both_ts t ≡ is_needed images layout (targets layout ys) t
     later_needed t i =
         ap (λ ts. is_needed images layout ts t) (are_both ∙ ap (λ us. targets layout xs ++ us) (sym (append-nil (targets layout ys))))
         ∙ alone_needed images t (targets layout ys) (targets layout xs) [] (target_sought layout ys t i)
         (λ u j. target_sought layout xs u (subst (In u) (append-nil (targets layout xs)) j)) (λ u j same none. apart u j same none)
       where
+        -- none of the first lies in its full stripe
         apart : (u : Target) → In u (targets layout xs) ⊎ In u [] → t.chunk ≡ u.chunk → mirrors t.chunk ≡ None → t.at.row ≢ u.at.row
         apart u (inl j) same none = λ e. share u t j i (sym same) (ap mirrors (sym same) ∙ none) (sym e)
         apart u (inr j) same none = absurd j
 
+    -- whether a want is needed is the same by both lists as by one, where it is so with that one's blocks
     needs_same : (ws : List Want) →
         ((t : Target) → In t (targets layout ws) → is_needed images layout both_ts t ≡ is_needed images layout (targets layout ws) t)
         → (w : Want) → In w ws → needs images layout both_ts w ≡ needs images layout (targets layout ws) w
@@ -242,6 +226,7 @@ module _ (layout : Layout) (table : IsTable layout.chunks) where
         by (Err f) e = refl
         by (Ok t) e = h t (in_targets layout w t ws i e)
 
+    -- what is kept of both is what is kept of each
     pub kept_both : kept_of images layout (xs ++ ys) ≡ kept_of images layout xs ++ kept_of images layout ys
     kept_both =
         filter-append (needs images layout both_ts) xs ys
@@ -250,11 +235,13 @@ module _ (layout : Layout) (table : IsTable layout.chunks) where
         ∙ ap (λ ws. kept_of images layout xs ++ ws)
         (filter_same (needs images layout both_ts) (needs images layout (targets layout ys)) ys (needs_same ys later_needed))
 
+    -- of one list as many are left out by both as by itself
     left_part : (ws : List Want) → ((t : Target) → In t (targets layout ws) → is_needed images layout both_ts t ≡ is_needed images layout (targets layout ws) t)
         → count_by (is_left_out images layout both_ts) (targets layout ws) ≡ left_out images layout ws
     left_part ws h = sum_same (λ t. cond (is_left_out images layout both_ts t) 1 0) (λ t. cond (is_left_out images layout (targets layout ws) t) 1 0)
         (targets layout ws) (λ t i. ap (λ b. cond (is_checked t && not b) 1 0) (h t i))
 
+    -- so it is with those that are left out
     pub left_both : left_out images layout (xs ++ ys) ≡ left_out images layout xs + left_out images layout ys
     left_both =
         let one = left_part xs first_needed in
@@ -265,6 +252,7 @@ module _ (layout : Layout) (table : IsTable layout.chunks) where
 -- ---- what is sifted
 
 module _ (layout : Layout) (held : Option Images) where
+  -- nothing was sifted
   pub sifts_none : (x : Sifted) → CanSift layout x → Sifts layout held [] x x
   sifts_none x can = record {
     can = can;
@@ -276,6 +264,7 @@ module _ (layout : Layout) (held : Option Images) where
     sound = tell held (λ images. (n : ℕ) → x.sound ≡ stood n → x.sound ≡ stood (n + left_out images layout [])) (λ images e n is. is ∙ ap stood (omega arith));
   }
 
+  -- both lists were
   pub sifts_then : IsTable layout.chunks → (xs ys : List Want) (x y z : Sifted) → ShareNoRow layout xs ys → Sifts layout held xs x y → Sifts layout held ys y z
       → Sifts layout held (xs ++ ys) x z
   sifts_then table xs ys x y z share h g = record {
@@ -317,6 +306,7 @@ module _ (layout : Layout) (held : Option Images) where
           same ∙ is ∙ ap stood none);
     }
       where
+        -- all blocks are needed, by the images that are told
         all : (images : Images) → held ≡ Some images → (t : Target) → In t blocks → is_needed images layout blocks t ≡ true
         all images h = told held (λ images. (t : Target) → In t blocks → is_needed images layout blocks t ≡ true) images h needed
 
@@ -327,7 +317,7 @@ module _ (layout : Layout) (held : Option Images) where
         → ((n : ℕ) → x.sound ≡ stood n → y.sound ≡ stood (n + more)) → Sifts layout held wants x y
     sifts_out placed can more counted needed same grows = record {
       can = can;
-      kind = ap (λ (k : Kept). k.kind) same;
+      kind = ap (λ (k : KeptBlocks). k.kind) same;
       more = [];
       wants_are = ap kept_wants same ∙ sym (append-nil (kept_wants x.kept));
       within = λ from to h. between_le layout from to wants h;
@@ -337,6 +327,7 @@ module _ (layout : Layout) (held : Option Images) where
           (told held (λ images. more ≡ count_by is_checked blocks) images h counted ∙ sym (left_checked images layout wants (none images h))));
     }
       where
+        -- no block is needed, by the images that are told
         none : (images : Images) → held ≡ Some images → (t : Target) → In t blocks → is_needed images layout blocks t ≡ false
         none images h = told held (λ images. (t : Target) → In t blocks → is_needed images layout blocks t ≡ false) images h needed
 
@@ -354,10 +345,10 @@ pub one_needed : (layout : Layout) (held : Option Images) (want : Want) (t : Tar
     → IfSome held (λ images. (u : Target) → In u (targets layout (want ∷ [])) → is_needed images layout (targets layout (want ∷ [])) u ≡ b)
 one_needed layout held want t b e copies h = tell held
     (λ images. (u : Target) → In u (targets layout (want ∷ [])) → is_needed images layout (targets layout (want ∷ [])) u ≡ b)
-    (λ images is u i.
-    subst (λ v. is_needed images layout (targets layout (want ∷ [])) v ≡ b) (one_target layout want t u e i)
+    (λ images is u i. subst (λ v. is_needed images layout (targets layout (want ∷ [])) v ≡ b) (one_target layout want t u e i)
     (needed_copy images layout t (targets layout (want ∷ [])) copies ∙ sym (told held (λ images. b ≡ is_copy_needed images layout t) images is h)))
 
+-- a list of one block with a position has positions
 pub one_placed : (layout : Layout) (want : Want) (t : Target) → sought layout want ≡ Ok t → (w : Want) → In w (want ∷ []) → (t : Target) ×
     (sought layout w ≡ Ok t)
 one_placed layout want t e w (inl same) = (t, ap (sought layout) (sym same) ∙ e)
@@ -371,23 +362,28 @@ one_counted layout want t e = ap (λ r. count_by is_checked (cons_option (ok_or_
 -- ---- checksums of one kind
 
 module _ (kind : SumKind) where
+  -- two lists whose checksums are of a kind are so together
   pub of_kind_both : (xs ys : List Want) → AreOfKind kind xs → AreOfKind kind ys → AreOfKind kind (xs ++ ys)
   of_kind_both [] ys h g = g
   of_kind_both (x ∷ xs) ys h g = (h.0, of_kind_both xs ys h.1 g)
 
+  -- the first of such a list are
   pub of_kind_first : (xs ys : List Want) → AreOfKind kind (xs ++ ys) → AreOfKind kind xs
   of_kind_first [] ys h = tt
   of_kind_first (x ∷ xs) ys h = (h.0, of_kind_first xs ys h.1)
 
+  -- each of such a list is
   pub of_kind_at : (xs : List Want) (i : ℕ) (d : Want) → AreOfKind kind xs → i < length xs → IsOfKind kind (get_or xs i d)
   of_kind_at [] i d h lt = absurd (omega (arith, lt))
   of_kind_at (x ∷ xs) zero d h lt = h.0
   of_kind_at (x ∷ xs) (suc i) d h lt = of_kind_at xs i d h.1 (omega (arith, lt))
 
+  -- the last of such a list are
   pub of_kind_behind : (xs ys : List Want) → AreOfKind kind (xs ++ ys) → AreOfKind kind ys
   of_kind_behind [] ys h = h
   of_kind_behind (x ∷ xs) ys h = of_kind_behind xs ys h.1
 
+  -- the sectors of a run have checksums of the list's kind
   sectors_of_kind : (n addr : ℕ) (xs : List ℕ) → n * sum_size kind ≤ length xs → AreOfKind kind (sectors_from kind addr n xs)
   sectors_of_kind zero addr xs h = tt
   sectors_of_kind (suc n) addr xs h =
@@ -395,10 +391,12 @@ module _ (kind : SumKind) where
       let long = length-drop (sum_size kind) xs in
       (stored_again kind xs (omega (arith, h, all)), sectors_of_kind n (addr + 4096) (drop (sum_size kind) xs) (omega (arith, h, all, long)))
 
+  -- sectors without a checksum are of any kind
   plains_of_kind : (n addr : ℕ) → addr + n * 4096 < 2 ^ 64 → AreOfKind kind (plains_from addr n)
   plains_of_kind zero addr h = tt
   plains_of_kind (suc n) addr h = (omega (arith, h), plains_of_kind n (addr + 4096) (omega (arith, h)))
 
+  -- so is a whole run
   run_of_kind : (addr : ℕ) (k : RunKind) (xs : List ℕ) (ms : List TreeMark) → IsRun addr k → sectors_of k * sum_size kind ≤ length xs
       → AreOfKind kind (run_wants kind addr k xs ms)
   run_of_kind addr TreeBlock xs [] is h = tt
@@ -406,6 +404,7 @@ module _ (kind : SumKind) where
   run_of_kind addr (Sectors n) xs ms is h = sectors_of_kind n addr xs h
   run_of_kind addr (Unsummed n) xs ms is h = plains_of_kind n addr is.1
 
+  -- and so are all runs
   runs_of_kind : (runs : List Run) (xs : List ℕ) (ms : List TreeMark) → AreRuns runs → all_sectors runs * sum_size kind ≤ length xs
       → AreOfKind kind (wants_of kind runs xs ms)
   runs_of_kind [] xs ms are h = tt
@@ -418,20 +417,22 @@ module _ (kind : SumKind) where
       (runs_of_kind runs (drop n xs) (drop (trees_of run.kind) ms) are.1 (omega (arith, h, both, long)))
 
 -- those of a list are of its kind
-pub list_of_kind : (kept : Kept) → IsList kept → AreOfKind kept.kind (kept_wants kept)
+pub list_of_kind : (kept : KeptBlocks) → IsList kept → AreOfKind kept.kind (kept_wants kept)
 list_of_kind kept is = runs_of_kind kept.kind kept.runs kept.sums kept.marks is.runs_fit (omega (arith, is.sums_fit))
 
 -- ---- lists one behind another
 
 -- a list of the blocks of two
-abbrev pub both : Kept → Kept → Kept
+abbrev pub both : KeptBlocks → KeptBlocks → KeptBlocks
 both whole more = record { kind = whole.kind; runs = whole.runs ++ more.runs; sums = whole.sums ++ more.sums; marks = whole.marks ++ more.marks }
 
-module _ (whole more : Kept) (is : IsList whole) (is_more : IsList more) (same : more.kind ≡ whole.kind) where
+module _ (whole more : KeptBlocks) (is : IsList whole) (is_more : IsList more) (same : more.kind ≡ whole.kind) where
+  -- its wants are those of the one, and behind them those of the other
   both_wants : kept_wants (both whole more) ≡ kept_wants whole ++ kept_wants more
   both_wants = wants_both whole.kind whole.runs more.runs whole.sums more.sums whole.marks more.marks is.sums_fit is.marks_fit
       ∙ ap (λ k. kept_wants whole ++ wants_of k more.runs more.sums more.marks) (sym same)
 
+  -- they keep the list's form
   both_list : IsList (both whole more)
   both_list = record {
     runs_fit = runs_both whole.runs more.runs is.runs_fit is_more.runs_fit;
@@ -447,18 +448,21 @@ module _ (whole more : Kept) (is : IsList whole) (is_more : IsList more) (same :
     marks_fit = omega (arith, length-append whole.marks more.marks, is.marks_fit, is_more.marks_fit, trees_both whole.runs more.runs);
   }
 
-  pub is_behind : (n m k : ℕ) → m ≡ k → IsBehind (record { list = whole; unchecked = n }) (record { list = more; unchecked = m })
+  -- a list behind another has the blocks of both
+  pub is_behind : (n m k : ℕ) → m ≡ k → ContinuesList (record { list = whole; unchecked = n }) (record { list = more; unchecked = m })
       (record { list = both whole more; unchecked = k })
   is_behind n m k e = record { is_list = both_list; kind = refl; wants = both_wants; unchecked = sym e }
 
 -- ---- judging
 
-module _ (layout : Layout) (held : Option Images) (whole more after : Gathered) (is : IsBehind whole more after) where
+module _ (layout : Layout) (held : Option Images) (whole more after : Gathered) (is : ContinuesList whole more after) where
+  -- what holds of the wants of the two holds of those of the list that continues
   behind_all : (P : List Want → Type 0) → P (kept_wants whole.list ++ kept_wants more.list) → P (kept_wants after.list)
   behind_all P p = subst P (sym is.wants) p
 
-  refused_still : (x : Sieve) (f : TreeFault) → x.refused ≡ Some f → Stands layout held whole x
-      → Stands layout held after (record { sifted = x.sifted; unchecked = more.unchecked; end = x.end; refused = x.refused })
+  -- what was refused before is refused still
+  refused_still : (x : Sieve) (f : TreeFault) → x.refused ≡ Some f → HasKeptOf layout held whole x
+      → HasKeptOf layout held after (record { sifted = x.sifted; unchecked = more.unchecked; end = x.end; refused = x.refused })
   refused_still x f e h = record {
     is_whole = is.is_list;
     can = h.can;
@@ -471,22 +475,23 @@ module _ (layout : Layout) (held : Option Images) (whole more after : Gathered) 
   }
 
   -- one was refused before
-  pub stands_refused : (x : Sieve) → is_some x.refused ≡ true → Stands layout held whole x
-      → Stands layout held after (record { sifted = x.sifted; unchecked = more.unchecked; end = x.end; refused = x.refused })
+  pub stands_refused : (x : Sieve) → is_some x.refused ≡ true → HasKeptOf layout held whole x
+      → HasKeptOf layout held after (record { sifted = x.sifted; unchecked = more.unchecked; end = x.end; refused = x.refused })
   stands_refused x is_refused h = by x.refused refl is_refused
     where
       by : (o : Option TreeFault) → x.refused ≡ o → is_some o ≡ true
-          → Stands layout held after (record { sifted = x.sifted; unchecked = more.unchecked; end = x.end; refused = x.refused })
+          → HasKeptOf layout held after (record { sifted = x.sifted; unchecked = more.unchecked; end = x.end; refused = x.refused })
       by None e r = absurd (false≢true r)
       by (Some f) e r = refused_still x f e h
 
-  module _ (x : Sieve) (none : x.refused ≡ None) (h : Stands layout held whole x) where
+  module _ (x : Sieve) (none : x.refused ≡ None) (h : HasKeptOf layout held whole x) where
+    -- those before were sifted
     was : AreSifted layout held (kept_wants whole.list) x
     was = subst (Judges layout held (kept_wants whole.list) x) none h.judged
 
     -- one is refused now
     pub stands_judged : (f : TreeFault) → IsFirstRefused layout x.end (kept_wants more.list) f
-        → Stands layout held after (record { sifted = x.sifted; unchecked = more.unchecked; end = x.end; refused = Some f })
+        → HasKeptOf layout held after (record { sifted = x.sifted; unchecked = more.unchecked; end = x.end; refused = Some f })
     stands_judged f r = record {
       is_whole = is.is_list;
       can = h.can;
@@ -497,7 +502,7 @@ module _ (layout : Layout) (held : Option Images) (whole more after : Gathered) 
 
     -- they were sifted
     pub stands_more : IsTable layout.chunks → ShareNoRow layout (kept_wants whole.list) (kept_wants more.list) → (y : Sifted) (to : ℕ)
-        → AreUpTo layout x.end to (kept_wants more.list) → Sifts layout held (kept_wants more.list) x.sifted y → Stands layout held after
+        → AreUpTo layout x.end to (kept_wants more.list) → Sifts layout held (kept_wants more.list) x.sifted y → HasKeptOf layout held after
         (record { sifted = y; unchecked = more.unchecked; end = to; refused = x.refused })
     stands_more table share y to upto s =
         let ws = kept_wants whole.list in
@@ -519,24 +524,26 @@ module _ (layout : Layout) (held : Option Images) (whole more after : Gathered) 
                     ∙ sym (kept_both layout table images ws vs share) ∙ ap (kept_of images layout) (sym is.wants));
                 sound = tell held (λ images. y.sound ≡ stood (left_out images layout (kept_wants after.list))) (λ images e.
                     told held (λ images. (n : ℕ) → x.sifted.sound ≡ stood n → y.sound ≡ stood (n + left_out images layout vs)) images e s.sound
-                    (left_out images layout ws)
-                    (told held (λ images. x.sifted.sound ≡ stood (left_out images layout ws)) images e was.sound)
+                    (left_out images layout ws) (told held (λ images. x.sifted.sound ≡ stood (left_out images layout ws)) images e was.sound)
                     ∙ ap stood (sym (left_both layout table images ws vs share)) ∙ ap (λ vs. stood (left_out images layout vs)) (sym is.wants));
               });
         }
 
+-- what isn't there is missing
 pub none_if : {X : Type 0} (o : Option X) → is_some o ≡ false → o ≡ None
 none_if None e = refl
 none_if (Some x) e = absurd (false≢true (sym e))
 
 -- ---- blocks before a chunk, and in it
 
+-- a block isn't empty
 len_some : (setting : Setting) (want : Want) → 0 < setting.nodesize → 0 < len_of setting want
 len_some setting (Tree addr generation level) some = some
 len_some setting (Block addr) some = some
 len_some setting (Sector addr sum) some = omega arith
 len_some setting (Plain addr) some = omega arith
 
+-- blocks before a chunk and blocks in it have no full stripe in common
 pub shares_none : (layout : Layout) (number : ℕ) (chunk : Chunk) (end to : ℕ) (xs ys : List Want) → IsTable layout.chunks → 0 < layout.setting.nodesize
     → slice_get layout.chunks number ≡ Some chunk → AreUpTo layout 0 end xs → end ≤ chunk.start → AreUpTo layout chunk.start to ys
     → to ≤ chunk.start + chunk.length → ShareNoRow layout xs ys
@@ -571,12 +578,13 @@ outside_span layout span end to (want ∷ wants) le upto between e =
     false≢true (sym e ∙ and_from (leb span.start (addr_of want)) (leb to (span.start + span.length)) (le-leb span.start (addr_of want) between.0)
     (le-leb to (span.start + span.length) most))
   where
+    -- blocks end at or before an address before which they lie
     upto_least : (a b c : ℕ) (ws : List Want) → AreUpTo layout a b ws → AreBetween layout a c ws → b ≤ c
     upto_least a b c [] upto between = omega (arith, upto, between)
     upto_least a b c (w ∷ ws) upto between = upto_least (addr_of w + len_of layout.setting w) b c ws upto.2 between.2
 
 -- one that lies in a chunk behind the blocks before shares no full stripe with them
-pub shares_span : (layout : Layout) (held : Option Images) (whole : Gathered) (sieve : Sieve) → sieve.refused ≡ None → Stands layout held whole sieve
+pub shares_span : (layout : Layout) (held : Option Images) (whole : Gathered) (sieve : Sieve) → sieve.refused ≡ None → HasKeptOf layout held whole sieve
     → (span : Span) (to : ℕ) (wants : List Want) → IsTable layout.chunks → IsSpanIn layout span → sieve.end ≤ span.start → AreUpTo layout sieve.end to wants
     → lies_in wants span to ≡ true → ShareNoRow layout (kept_wants whole.list) wants
 shares_span layout held whole sieve none h span to [] table in_table le upto inside = λ t u i j. absurd j
@@ -596,8 +604,7 @@ shares_span layout held whole sieve none h span to (want ∷ wants) table in_tab
 
 -- those behind an address of a chunk with copies and without an older image, as far as they lie in it
 pub passes_inert : (layout : Layout) (table : IsTable layout.chunks) (want : Want) (chunk : Chunk) (old new : List Want) → Some chunk ≡ chunk_at layout.chunks
-    (addr_of want)
-    → is_none (mirrors chunk) ≡ false → has_older layout.devices chunk ≡ false → PassesPlain old (chunk.start + chunk.length) new
+    (addr_of want) → is_none (mirrors chunk) ≡ false → has_older layout.devices chunk ≡ false → PassesPlain old (chunk.start + chunk.length) new
     → PassesInert layout want old new
 passes_inert layout table want chunk old new found copies young p =
     let at = find_at (λ (c : Chunk). holds c (addr_of want)) layout.chunks chunk (sym found) in
@@ -616,14 +623,16 @@ passes_inert layout table want chunk old new found copies young p =
 
 -- nothing is kept of them, and nothing counted
 module _ (layout : Layout) (held : Option Images) (want : Want) (end : ℕ) (old new : List Want) (p : PassesInert layout want old new)
-    (apart : AreApart layout end old)
-    (le : addr_of want ≤ end) (x : Sifted) (can : CanSift layout x) where
+    (apart : AreApart layout end old) (le : addr_of want ≤ end) (x : Sifted) (can : CanSift layout x) where
+  -- those that are passed and those that are left are apart
   apart_past : AreApart layout end (p.past ++ new)
   apart_past = subst (AreApart layout end) p.split apart
 
+  -- each of them has a position
   placed_past : (w : Want) → In w p.past → (t : Target) × (sought layout w ≡ Ok t)
   placed_past w i = sought_each layout end (p.past ++ new) apart_past w (in_left w p.past new i)
 
+  -- each is a sector without a checksum of a chunk with copies and without an older image
   past_is : (t : Target) → In t (targets layout p.past) → (is_plain t.want ≡ true) × IsSome (mirrors t.chunk) × (has_older layout.devices t.chunk ≡ false)
   past_is t i =
       let w = of_targets layout t p.past i in
@@ -631,6 +640,7 @@ module _ (layout : Layout) (held : Option Images) (want : Want) (end : ℕ) (old
       let c = p.inert w.0 t w.1 (omega (arith, le, behind)) w.2 in
       (ap is_plain (sought_of layout w.0 t w.2).want_is ∙ p.plain w.0 w.1, c.0, c.1)
 
+  -- so they are left out
   pub sifts_inert : Sifts layout held p.past x x
   sifts_inert = sifts_out layout held p.past x x placed_past can 0
       (tell held (λ images. 0 ≡ count_by is_checked (targets layout p.past)) (λ images h.
@@ -638,8 +648,7 @@ module _ (layout : Layout) (held : Option Images) (want : Want) (end : ℕ) (old
       (tell held (λ images. (t : Target) → In t (targets layout p.past) → is_needed images layout (targets layout p.past) t ≡ false) (λ images h t i.
       let c = past_is t i in
       needed_copy images layout t (targets layout p.past) c.1
-      ∙ ap (λ b. cond b (has_older layout.devices t.chunk) (is_unsound images t)) c.0 ∙ c.2))
-      refl (λ n e. e ∙ ap stood (omega arith))
+      ∙ ap (λ b. cond b (has_older layout.devices t.chunk) (is_unsound images t)) c.0 ∙ c.2)) refl (λ n e. e ∙ ap stood (omega arith))
 
   -- a block of a chunk with copies, with them
   pub inert_next : IsTable layout.chunks → (before : Sifted) (t : Target) → sought layout want ≡ Ok t → IsSome (mirrors t.chunk)
@@ -652,12 +661,15 @@ module _ (layout : Layout) (held : Option Images) (want : Want) (end : ℕ) (old
         (subst (In u) (targets_both layout (want ∷ []) p.past) i))));
   }
     where
+      -- a chunk with copies isn't one without
       no_parity : (u : Target) → mirrors u.chunk ≡ None → IsSome (mirrors u.chunk) → ⊥
       no_parity u none some = false≢true (subst IsSome none some)
 
+      -- the block lies in a chunk with copies
       one_is : (u : Target) → In u (targets layout (want ∷ [])) → IsSome (mirrors u.chunk)
       one_is u i = subst (λ v. IsSome (mirrors v.chunk)) (one_target layout want t u e i) copies
 
+      -- so does each of it and those that are passed
       each : (u : Target) → In u (targets layout (want ∷ [])) ⊎ In u (targets layout p.past) → IsSome (mirrors u.chunk)
       each u (inl i) = one_is u i
       each u (inr i) = (past_is u i).1
@@ -665,14 +677,16 @@ module _ (layout : Layout) (held : Option Images) (want : Want) (end : ℕ) (old
 -- ---- one more, with those that are judged with it
 
 module _ (layout : Layout) (held : Option Images) (table : IsTable layout.chunks) (past : List Want) (want : Want) (old new : List Want)
-    (first before after : Sifted)
-    (share : ShareNoRow layout past (want ∷ old)) (s : SiftsNext layout held want old new before after) where
+    (first before after : Sifted) (share : ShareNoRow layout past (want ∷ old)) (s : SiftsNext layout held want old new before after) where
+  -- the block and those that are judged with it
   abbrev mine : List Want
   mine = want ∷ s.more
 
+  -- they and those that are left are all that there were
   among : (want ∷ old) ≡ mine ++ new
   among = ap (λ ws. want ∷ ws) s.split
 
+  -- they share no full stripe with those before
   share_mine : ShareNoRow layout past mine
   share_mine t u i j = share t u i
       (subst (λ ws. In u (targets layout ws)) (sym among)
@@ -688,5 +702,6 @@ module _ (layout : Layout) (held : Option Images) (table : IsTable layout.chunks
           (subst (In u) (sym (targets_both layout mine new)) (in_right u (targets layout mine) (targets layout new) j)))
       by (inr k) = s.rows t u k j
 
+  -- so they are sifted with those before
   pub sifts_more : Sifts layout held past first before → Sifts layout held (past ++ mine) first after
   sifts_more h = sifts_then layout held table past mine first before after share_mine h s.sifts

@@ -1,43 +1,23 @@
 -- A full stripe whose blocks were collected is sifted.
 use Rattle.std.proofs.Common.{◌≡◌, ℕ, ◌+◌, ◌∷◌, Bool, true, false, cond, ◌||◌, count_by, is_none, List, [], map, Option, Some, None, IfSome, IsOk, Ok, Err}
-use Rattle.std.proofs.Common.{refl, sym, ap, ◌∙◌, subst, arith, append-nil, slice_get}
-use Rattle.std.proofs.lemmas.Option.{same_Some, slice_get_within}
-use Rattle.std.specs.List.{list_any}
-use Rattle.btr_chunk.specs.Chunk.{mirrors}
-use Rattle.btr_chunk.specs.Mapping.{holds}
-use Rattle.btr_chunk.specs.Table.{IsTable, chunk_at}
-use Rattle.btr_chunk.specs.declared.chunk.Chunk.{Chunk}
-use Rattle.btr_rack.specs.Rack.{Seen}
-use Rattle.btr_read.specs.Candidates.{Target}
-use Rattle.btr_read.specs.Fate.{is_plain, sought}
-use Rattle.btr_read.specs.Layout.{HaveOwnSlots, Layout}
-use Rattle.btr_read.specs.Want.{addr_of}
-use Rattle.btr_read.specs.declared.want.Want.{Want}
-use Rattle.btr_read.proofs.Fates.{sought_of}
-use Rattle.btr_scrub_copies.specs.Fresh.{flagged}
-use Rattle.btr_scrub_copies.specs.Writes.{AccountsMend, Images}
-use Rattle.btr_scrub_copies.specs.declared.mended.MendFault.{MendFault}
-use Rattle.btr_scrub_copies.specs.declared.mended.MendFault.TheVariants.{Image, Memory}
-use Rattle.btr_scrub_row.specs.Mending.{IsOfRow, IsRowOf, is_at, mended_row}
-use Rattle.btr_scrub_row.specs.Rows.{Row}
-use Rattle.btr_scrub_row.specs.Wanted.{is_checked}
-use Rattle.btr_scrub_row.specs.declared.mended.MendedRow.{MendedRow}
+use Rattle.std.proofs.Common.{refl, sym, ap, ◌∙◌, subst, arith, append-nil}
+use Rattle.btr_scrub.proofs.Common.{AccountsMend, AddsAll, AreApart, Blocks, CanMend, CanSift, Chunk, HasRooms, Image, Images, IsTable, Layout, LiesInChunk}
+use Rattle.btr_scrub.proofs.Common.{LiesInStripe, Memory, MendFault, MendedRow, Row, Seen, ShareNoRow, Sifts, SiftsNext, Target, Want, addr_of, chunk_at}
+use Rattle.btr_scrub.proofs.Common.{flagged, holds, is_checked, is_copy_needed, is_needed, is_plain, is_row_needed, list_any, mended_row, mirrors, row_of}
+use Rattle.btr_scrub.proofs.Common.{same_Some, serving, slice_get_within, sought, sought_of, stood, targets}
+use Rattle.btr_scrub_row.specs.Mending.{IsOfRow, IsRowOf, is_at}
 use Rattle.btr_scrub.specs.BlocksInRows.{In}
-use Rattle.btr_scrub.specs.Listed.{AddsAll}
-use Rattle.btr_scrub.specs.Order.{AreApart, targets}
-use Rattle.btr_scrub.specs.Repair.{first_missing, row_of, stood}
 use Rattle.btr_scrub.specs.Rowing.{CollectsRow}
-use Rattle.btr_scrub.specs.Scrubbing.{HasRooms}
-use Rattle.btr_scrub.specs.Sifting.{CanSift, ShareNoRow, Sifts, SiftsNext, begun, is_copy_needed, is_needed, is_row_needed, is_troubled, sound_in}
-use Rattle.btr_scrub.specs.WrittenRanges.{LiesInChunk, LiesInStripe, alone}
+use Rattle.btr_scrub.specs.Sifting.{is_troubled, sound_in}
 use Rattle.btr_scrub.specs.declared.sifted.Sifted.{Sifted}
 use Rattle.btr_scrub.proofs.NextRow.{IsNextRow, is_row_of, mine_is, row_blocks}
 use Rattle.btr_scrub.proofs.Lists.{any_at}
+use Rattle.btr_scrub.proofs.RowNumbers.{IsWholeChunk}
 use Rattle.btr_scrub.proofs.Blockwise.{ok_of}
 use Rattle.btr_scrub.proofs.OneRow.{chunk_number, chunk_of, row_in_stripe}
 use Rattle.btr_scrub.proofs.Positions.{alone_lies, find_at, bounds_of}
-use Rattle.btr_scrub.proofs.Rowwise.{RowsUnderway, next_row}
-use Rattle.btr_scrub.proofs.Scrubbing.{scrubs_none, tell, told}
+use Rattle.btr_scrub.proofs.Rowwise.{next_row, none_past}
+use Rattle.btr_scrub.proofs.Scrubbing.{tell, told}
 use Rattle.btr_scrub.proofs.Sieving.{sifts_kept, sifts_out}
 
 -- ---- what a row's wants and blocks have in common
@@ -56,8 +36,7 @@ plain_among layout (w ∷ ws) (t ∷ ts) e =
 
 -- one with a plain sector is needed
 pub plain_needed : (images : Images) (layout : Layout) (wants : List Want) (row : Row) → map (sought layout) wants ≡ map is_at row.blocks
-    → list_any is_plain wants ≡ true
-    → None ≡ sound_in images layout row
+    → list_any is_plain wants ≡ true → None ≡ sound_in images layout row
 plain_needed images layout wants row e plain =
     sym (ap (λ b. cond (b || is_troubled (mended_row images layout row false)) None (Some (count_by is_checked row.blocks)))
     (plain_among layout wants row.blocks e ∙ plain))
@@ -79,6 +58,7 @@ none_sound images layout row e = by (is_row_needed images layout row) e
     by true e = refl
     by false e = cc
 
+-- where a number was counted, the row isn't needed, and that is the number of its checked blocks
 pub some_sound : (images : Images) (layout : Layout) (row : Row) (n : ℕ) → Some n ≡ sound_in images layout row
     → (is_row_needed images layout row ≡ false) × (n ≡ count_by is_checked row.blocks)
 some_sound images layout row n e = by (is_row_needed images layout row) e
@@ -106,44 +86,44 @@ row_account A B layout start number wants row a b (Image slot) table is h =
 
 -- the chunk of a block, which has parity
 pub parity_there : (layout : Layout) (first : Want) (chunk : Chunk) → IsOk (sought layout first) →
-    ((t : Target) → sought layout first ≡ Ok t → mirrors t.chunk ≡ None)
-    → chunk_at layout.chunks (addr_of first) ≡ Some chunk → mirrors chunk ≡ None
+    ((t : Target) → sought layout first ≡ Ok t → mirrors t.chunk ≡ None) → chunk_at layout.chunks (addr_of first) ≡ Some chunk → mirrors chunk ≡ None
 parity_there layout first chunk placed parity at =
     let t = ok_of (sought layout first) placed in
     let same = same_Some t.0.chunk chunk (sym (chunk_of layout first t.0 t.1) ∙ at) in
     ap mirrors (sym same) ∙ parity t.0 t.1
 
-module _ (layout : Layout) (table : IsTable layout.chunks) (own : HaveOwnSlots layout.devices) (given : first_missing layout ≡ None) (first : Want)
-    (old new ws : List Want)
-    (chunk : Chunk) (at : chunk_at layout.chunks (addr_of first) ≡ Some chunk) (parity : mirrors chunk ≡ None) (apart : AreApart layout 0 (first ∷ old)) (r : ℕ)
-    (got : CollectsRow chunk first old new ws r) (a : Seen) where
-  found : (i : ℕ) × (slice_get layout.chunks i ≡ Some chunk) × (holds chunk (addr_of first) ≡ true)
-  found = find_at (λ (c : Chunk). holds c (addr_of first)) layout.chunks chunk at
+-- the blocks of the full stripe that comes next were collected: it is one of the chunk of a first block, and those that are left are behind it
+pub record RowComesNext (layout : Layout) (first : Want) (old new wants : List Want) (chunk : Chunk) (r : ℕ) : Type 0 where
+  pub number : ℕ
+  pub whole : IsWholeChunk layout number chunk
+  pub apart : AreApart layout chunk.start (first ∷ old)
+  pub got : CollectsRow chunk first old new wants r
 
-  from_start : AreApart layout chunk.start (first ∷ old)
-  from_start = ((bounds_of chunk (addr_of first) found.2).0, apart.1, apart.2)
+-- so they are, of a first block in a chunk with parity
+pub row_next : {write : Bool} {a : Seen} {store : Blocks} {marks : List Bool} → CanMend write a store marks → (first : Want) (old new wants : List Want)
+    (chunk : Chunk) (r : ℕ) → AreApart store.layout 0 (first ∷ old)
+    → ((t : Target) → sought store.layout first ≡ Ok t → mirrors t.chunk ≡ None) → chunk_at store.layout.chunks (addr_of first) ≡ Some chunk
+    → CollectsRow chunk first old new wants r → RowComesNext store.layout first old new wants chunk r
+row_next {a} {store} ready first old new wants chunk r apart parity at got =
+    let found = find_at (λ (c : Chunk). holds c (addr_of first)) store.layout.chunks chunk at in
+    record {
+      number = found.0;
+      whole = record {
+        of = record { table = ready.table; there = found.1; parity = parity_there store.layout first chunk apart.1 parity at };
+        own = (serving a store ready.serves).own_slots;
+        given = ready.given;
+      };
+      apart = ((bounds_of chunk (addr_of first) found.2).0, apart.1, apart.2);
+      got = got;
+    }
 
-  abbrev underway : RowsUnderway (flagged []) layout table own given found.0 chunk found.1 parity (first ∷ old) false (first ∷ old) [] [] a a (begun 0 0)
-      (begun 0 0)
-  underway = record {
-    past = [];
-    split = refl;
-    q = 0;
-    below = omega arith;
-    sound = λ t i. absurd i;
-    end = chunk.start;
-    from = omega arith;
-    apart = from_start;
-    ahead = λ t i e. omega arith;
-    done = scrubs_none (alone layout chunk) false [] a (begun 0 0) tt;
-  }
-
-  next : IsNextRow (flagged []) layout table own given found.0 chunk found.1 parity (first ∷ old) 0 [] new r ws
-  next = next_row (flagged []) layout table own given found.0 chunk found.1 parity (first ∷ old) false (first ∷ old) old new [] [] a a (begun 0 0) (begun 0 0)
-      underway first r ws refl got.0 got.1
+module _ {layout : Layout} {first : Want} {old new ws : List Want} {chunk : Chunk} {r : ℕ} (n : RowComesNext layout first old new ws chunk r) where
+  -- these blocks are those of the row that comes next
+  next : IsNextRow n.whole (flagged []) (first ∷ old) 0 [] new r ws
+  next = next_row n.whole (flagged []) (first ∷ old) (none_past n.whole (flagged []) (first ∷ old) n.apart) old new first r ws refl n.got.0 n.got.1
 
   -- the same, as if no others were listed
-  mine : IsNextRow (flagged []) layout table own given found.0 chunk found.1 parity ws 0 [] [] r ws
+  mine : IsNextRow n.whole (flagged []) ws 0 [] [] r ws
   mine = record {
     split = sym (append-nil ws);
     later = omega arith;
@@ -159,44 +139,52 @@ module _ (layout : Layout) (table : IsTable layout.chunks) (own : HaveOwnSlots l
     some_block = next.some_block;
   }
 
+  -- the row that they make, beside no image that fails
   abbrev pub row : Row
   row = row_of (flagged []) (targets layout ws) chunk r
 
+  -- it is the row of these blocks
   pub is_row : IsRowOf layout chunk.start r ws row
-  is_row = is_row_of (flagged []) layout table own given found.0 chunk found.1 parity ws 0 [] [] r ws mine
+  is_row = is_row_of n.whole (flagged []) ws mine
 
+  -- the row has these blocks
   blocks_are : row.blocks ≡ targets layout ws
-  blocks_are = row_blocks (flagged []) layout table own given found.0 chunk found.1 parity ws 0 [] [] r ws mine
+  blocks_are = row_blocks n.whole (flagged []) ws mine
 
+  -- each lies in it
   lies : (t : Target) → In t (targets layout ws) → (t.chunk ≡ chunk) × (t.at.row ≡ r)
-  lies t i = mine_is (flagged []) layout table own given found.0 chunk found.1 parity ws 0 [] [] r ws mine t i
+  lies t i = mine_is n.whole (flagged []) ws mine t i
 
+  -- none that is left does
   none_left : ShareNoRow layout ws new
   none_left t u i j same none eq =
       let m = lies t i in
       let later = next.behind u j (sym same ∙ m.0) in
       omega (arith, m.1, eq, later)
 
+  -- each is needed where the row is
   as_row : (images : Images) (b : Bool) → is_row_needed images layout row ≡ b → (t : Target) → In t (targets layout ws)
       → is_needed images layout (targets layout ws) t ≡ b
   as_row images b e t i =
       let m = lies t i in
       ap (λ c. cond (is_none (mirrors c)) (is_row_needed images layout (row_of (flagged []) (targets layout ws) c t.at.row)) (is_copy_needed images layout t))
       m.0
-      ∙ ap (λ n. cond (is_none (mirrors chunk)) (is_row_needed images layout (row_of (flagged []) (targets layout ws) chunk n))
+      ∙ ap (λ k. cond (is_none (mirrors chunk)) (is_row_needed images layout (row_of (flagged []) (targets layout ws) chunk k))
       (is_copy_needed images layout t)) m.1
-      ∙ ap (λ o. cond (is_none o) (is_row_needed images layout row) (is_copy_needed images layout t)) parity ∙ e
+      ∙ ap (λ o. cond (is_none o) (is_row_needed images layout row) (is_copy_needed images layout t)) n.whole.of.parity ∙ e
 
+  -- each has a position
   placed : (w : Want) → In w ws → (t : Target) × (sought layout w ≡ Ok t)
   placed w i = let e = next.each w i in (e.0, e.1)
 
   module _ (held : Option Images) (x y : Sifted) where
+    -- to sift them is to sift what comes next
     sifts_next : Sifts layout held ws x y → SiftsNext layout held first old new x y
     sifts_next s = record {
-      more = got.1.more;
-      split = got.1.split;
-      sifts = subst (λ vs. Sifts layout held vs x y) got.1.are s;
-      rows = subst (λ vs. ShareNoRow layout vs new) got.1.are none_left;
+      more = n.got.1.more;
+      split = n.got.1.split;
+      sifts = subst (λ vs. Sifts layout held vs x y) n.got.1.are s;
+      rows = subst (λ vs. ShareNoRow layout vs new) n.got.1.are none_left;
     }
 
     -- all its blocks are kept
@@ -204,16 +192,16 @@ module _ (layout : Layout) (table : IsTable layout.chunks) (own : HaveOwnSlots l
         → y.nodesize ≡ x.nodesize → HasRooms layout y.room.buffer → SiftsNext layout held first old new x y
     row_kept can none adds same nodesize rooms = sifts_next (sifts_kept layout held ws x y can
         (tell held (λ images. (t : Target) → In t (targets layout ws) → is_needed images layout (targets layout ws) t ≡ true) (λ images h.
-        as_row images true (none_sound images layout row (told held (λ images. None ≡ sound_in images layout row) images h none))))
-        adds same nodesize rooms)
+        as_row images true (none_sound images layout row (told held (λ images. None ≡ sound_in images layout row) images h none)))) adds same nodesize rooms)
 
     -- they are counted
-    pub row_out : (n : ℕ) → CanSift layout y → IfSome held (λ images. Some n ≡ sound_in images layout row) → y.kept ≡ x.kept
-        → ((m : ℕ) → x.sound ≡ stood m → y.sound ≡ stood (m + n)) → SiftsNext layout held first old new x y
-    row_out n can sound same grows = sifts_next (sifts_out layout held ws x y placed can n
-        (tell held (λ images. n ≡ count_by is_checked (targets layout ws)) (λ images h. (is images h).1 ∙ ap (count_by is_checked) blocks_are))
+    pub row_out : (out : ℕ) → CanSift layout y → IfSome held (λ images. Some out ≡ sound_in images layout row) → y.kept ≡ x.kept
+        → ((m : ℕ) → x.sound ≡ stood m → y.sound ≡ stood (m + out)) → SiftsNext layout held first old new x y
+    row_out out can sound same grows = sifts_next (sifts_out layout held ws x y placed can out
+        (tell held (λ images. out ≡ count_by is_checked (targets layout ws)) (λ images h. (is images h).1 ∙ ap (count_by is_checked) blocks_are))
         (tell held (λ images. (t : Target) → In t (targets layout ws) → is_needed images layout (targets layout ws) t ≡ false) (λ images h.
         as_row images false (is images h).0)) same grows)
       where
-        is : (images : Images) → held ≡ Some images → (is_row_needed images layout row ≡ false) × (n ≡ count_by is_checked row.blocks)
-        is images h = some_sound images layout row n (told held (λ images. Some n ≡ sound_in images layout row) images h sound)
+        -- the row isn't needed, and as many were counted as it has checked blocks
+        is : (images : Images) → held ≡ Some images → (is_row_needed images layout row ≡ false) × (out ≡ count_by is_checked row.blocks)
+        is images h = some_sound images layout row out (told held (λ images. Some out ≡ sound_in images layout row) images h sound)

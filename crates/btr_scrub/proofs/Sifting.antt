@@ -1,49 +1,37 @@
 -- Blocks that are left out, as nothing may have to be written for them, change neither the writes nor the counts.
-use Rattle.std.proofs.Common.{◌≡◌, ◌⊎◌, ℕ, ◌+◌, Bool, true, false, not, cond, ◌&&◌, ◌||◌, eqb, ltb, ◌/◌, List, [], ◌∷◌, ◌++◌, map, length, slice_get, subst}
+use Rattle.std.proofs.Common.{◌≡◌, ◌⊎◌, ℕ, ◌+◌, Bool, true, false, not, cond, ◌&&◌, ◌||◌, eqb, ltb, ◌/◌, List, [], ◌∷◌, ◌++◌, map, length, subst}
 use Rattle.std.proofs.Common.{Option, Some, None, is_none, Result, Ok, Err, refl, sym, ap, ◌∙◌, inl, inr, arith}
 use Rattle.std.proofs.Math.Path.{fun_ext}
-use Rattle.std.proofs.lemmas.Bool.{false≢true, and_from, and_parts, eq-eqb, eqb-true, ltb-false, or_parts, false_from_ne_true, not-false}
-use Rattle.std.proofs.lemmas.List.Sums.{sum_by-cons}
-use Rattle.std.specs.List.{cons_option, count_by, filter, flat_map, fold, list_any, range_with_len, sum_by}
-use Rattle.std.specs.Option.{option_map_or}
-use Rattle.btr_chunk.specs.Chunk.{mirrors, stripe_length}
-use Rattle.btr_chunk.specs.Table.{IsTable}
-use Rattle.btr_chunk.specs.declared.chunk.Chunk.{Chunk}
-use Rattle.btr_chunk.specs.declared.place.Part.{Part}
-use Rattle.btr_chunk.specs.declared.place.Part.TheVariants.{Mirror, Slice, P, Q}
-use Rattle.btr_read.specs.Candidates.{Target, element}
-use Rattle.btr_read.specs.Fate.{Fault, is_plain, sought}
-use Rattle.btr_read.specs.Layout.{Layout}
-use Rattle.btr_read.specs.declared.want.Want.{Want}
-use Rattle.btr_scrub_copies.specs.Blocks.{accepted, are_accepted, bad_parts, block_writes, copy_writes, is_good, is_lost, is_sound, own_parts}
-use Rattle.btr_scrub_copies.specs.Fresh.{Failing, flagged, fresh_writes, stale_parts}
-use Rattle.btr_scrub_copies.specs.Writes.{Images}
-use Rattle.btr_scrub_copies.proofs.Syncs.{passing_filter}
-use Rattle.btr_scrub_row.specs.Mending.{mended_row}
-use Rattle.btr_scrub_row.specs.Rows.{Row, parities, parity_writes, row_writes}
-use Rattle.btr_scrub_row.specs.declared.mended.MendedRow.{MendedRow}
-use Rattle.btr_scrub_row.specs.Wanted.{is_checked, is_lost_block, mending_writes, wrong_parts}
-use Rattle.btr_scrub.specs.Doubts.{fails_at, fails_on, failing, is_on}
+use Rattle.btr_scrub.proofs.Common.{Chunk, Failing, Fault, Images, IsSought, IsTable, Layout, MendedRow, Mirror, P, Part, Q, Row, Target, Want, accepted}
+use Rattle.btr_scrub.proofs.Common.{all_count_for, all_writes_for, and_from, and_parts, bad_parts, begun, block_writes, chunk_writes_for, cons_option}
+use Rattle.btr_scrub.proofs.Common.{copy_writes, eq-eqb, eqb-true, failing, fails_at, fails_on, false_from_ne_true, false≢true, filter, flagged, flat_map}
+use Rattle.btr_scrub.proofs.Common.{fresh_writes, has_behind, has_older, is_checked, is_copy_needed, is_good, is_in_chunk, is_in_row, is_lost_block}
+use Rattle.btr_scrub.proofs.Common.{is_needed, is_plain, is_row_needed, is_sound, list_any, list_any-false, ltb-false, mended_row, mending_writes, mirrors}
+use Rattle.btr_scrub.proofs.Common.{ok_or_none, option_map_or, or_parts, own_parts, parities, parity_writes, passing_filter, range_with_len, row_of}
+use Rattle.btr_scrub.proofs.Common.{row_writes, rows_count, rows_in, rows_writes, sites_count, sites_writes, sought, stale_parts, stood, stripe_length}
+use Rattle.btr_scrub.proofs.Common.{sum_by, sum_by-cons, targets, wrong_parts}
+use Rattle.std.proofs.lemmas.Bool.{not-false}
+use Rattle.std.specs.List.{count_by, fold}
+use Rattle.btr_chunk.specs.declared.place.Part.TheVariants.{Slice}
+use Rattle.btr_read.specs.Candidates.{element}
+use Rattle.btr_scrub_copies.specs.Blocks.{are_accepted, is_lost}
+use Rattle.btr_scrub.specs.Doubts.{is_on}
 use Rattle.btr_scrub.specs.BlocksInRows.{In}
-use Rattle.btr_scrub.specs.Judged.{has_behind, has_older}
-use Rattle.btr_scrub.specs.Order.{IsSought, targets}
-use Rattle.btr_scrub.specs.Repair.{is_in_chunk, is_in_row, ok_or_none, row_of, rows_in, stood}
-use Rattle.btr_scrub.specs.Scrubbing.{all_count_for, all_writes_for, chunk_writes_for, rows_count, rows_writes, sites_count, sites_writes}
-use Rattle.btr_scrub.specs.Sifting.{KeptCounts, KeptWrites, begun, is_copy_needed, is_needed, is_row_needed, is_troubled, is_unsound, kept_of, left_out, needs}
+use Rattle.btr_scrub.specs.Sifting.{KeptCounts, KeptWrites, is_troubled, is_unsound, kept_of, left_out, needs}
 use Rattle.btr_scrub.specs.Sifting.{row_among}
 use Rattle.btr_scrub.proofs.AcrossChunks.{sum_same}
-use Rattle.btr_scrub.proofs.Blockwise.{filter_none, target_sought}
+use Rattle.btr_scrub.proofs.Blockwise.{target_sought}
 use Rattle.btr_scrub.proofs.Inert.{inert_chunk, none_fresh, none_stale}
 use Rattle.btr_scrub.proofs.Doubting.{passes_plain}
 use Rattle.btr_scrub.proofs.Lists.{at_in, in_filter, none_in, flat_none, in_some}
 use Rattle.btr_scrub.proofs.NextRow.{empty_writes}
 use Rattle.btr_scrub.proofs.RowAgreeing.{RowAlike, beside, checked_row, flat_same, row_writes_alike, flat_mapped}
-use Rattle.btr_scrub.proofs.RowNumbers.{same_start}
+use Rattle.btr_scrub.proofs.RowNumbers.{IsParityChunk, same_start}
 use Rattle.btr_scrub.proofs.Sums.{sum_filter, sum_flat, sum_map, sum_zero, sum_add, sum_one}
 use Rattle.btr_scrub.proofs.Tallying.{counts_are, counts_of, lost_sum, parity_in, parity_none, same_tally}
-use Rattle.btr_chunk.proofs.Searches.{list_any-false}
 use Rattle.std.proofs.Math.Bool.{and-false}
 use Rattle.std.proofs.lemmas.List.{nil_from_length}
+use Rattle.btr_scrub.proofs.Grouping.{filter_none}
 
 -- ---- lists of which some are left out
 
@@ -103,6 +91,7 @@ module _ {X : Type 0} (q : X → Bool) where
       ap (λ n. sum_by out xs + n) (sym (counted (filter q xs)) ∙ sum_filter (λ x. cond (p x) 1 0) q xs)
       ∙ sym (sum_add out kept xs) ∙ sum_same (λ x. out x + kept x) (λ x. cond (p x) 1 0) xs (λ x i. by (p x) (q x)) ∙ counted xs
     where
+      -- as many as pass a test are counted, one by one
       counted : (ys : List X) → sum_by (λ x. cond (p x) 1 0) ys ≡ length (filter p ys)
       counted ys = sym (sum_filter (λ x. 1) p ys) ∙ sum_one (filter p ys)
 
@@ -118,14 +107,17 @@ none_left p xs e x i = false_from_ne_true (p x) (λ h. subst (In x) e (in_filter
 
 -- ---- a full stripe in which nothing may have to be written
 
+-- where a sum is nothing, so is each number
 zero_each : {X : Type 0} (f : X → ℕ) (xs : List X) → sum_by f xs ≡ 0 → (x : X) → In x xs → f x ≡ 0
 zero_each f [] e x i = absurd i
 zero_each f (y ∷ ys) e x (inl same) = ap f (sym same) ∙ omega (arith, e, sum_by-cons f y ys)
 zero_each f (y ∷ ys) e x (inr i) = zero_each f ys (omega (arith, e, sum_by-cons f y ys)) x i
 
+-- what isn't above nothing is nothing
 no_zero : (n : ℕ) → ltb 0 n ≡ false → n ≡ 0
 no_zero n e = omega (arith, ltb-false 0 n e)
 
+-- what counts as nothing doesn't pass
 none_one : (b : Bool) → ◌≡◌ {A = ℕ} (cond b 1 0) 0 → b ≡ false
 none_one true e = absurd (omega (arith, e))
 none_one false e = refl
@@ -140,18 +132,23 @@ sound_block images t fails checked sound = ap (λ b. cond b (fresh_writes images
     by (Some bytes) = refl
 
 module _ (images : Images) (layout : Layout) (row : Row) (out : is_row_needed images layout row ≡ false) where
+  -- what would come of mending it without a write
   abbrev mended : MendedRow
   mended = mended_row images layout row false
 
+  -- it has no plain sector, and no trouble
   parts : (list_any (λ (t : Target). is_plain t.want) row.blocks ≡ false) × (is_troubled mended ≡ false)
   parts = or_parts (list_any (λ (t : Target). is_plain t.want) row.blocks) (is_troubled mended) out
 
+  -- no place of a block is bad and no block lost, and no parity has a write
   right : ((ltb 0 mended.bad || ltb 0 mended.lost) ≡ false) × (ltb 0 mended.parity ≡ false)
   right = or_parts (ltb 0 mended.bad || ltb 0 mended.lost) (ltb 0 mended.parity) parts.1
 
+  -- it has no sector without a checksum
   no_plain : (t : Target) → In t row.blocks → is_plain t.want ≡ false
   no_plain t i = none_in (λ (t : Target). is_plain t.want) row.blocks t parts.0 i
 
+  -- no place of a block is bad, and none is lost
   row_sound : (t : Target) → In t row.blocks → (bad_parts images t ≡ []) × (is_lost images t ≡ false)
   row_sound t i =
       let both = or_parts (ltb 0 mended.bad) (ltb 0 mended.lost) right.0 in
@@ -161,15 +158,18 @@ module _ (images : Images) (layout : Layout) (row : Row) (out : is_row_needed im
         sym (ap (λ b. not b && is_lost images t) (no_plain t i)) ∙ none_one (is_lost_block images t) lost,
       )
 
+  -- nothing is written of a parity
   no_parity : (q : Part) → In q (parities row.chunk.profile) → parity_writes images layout row q ≡ []
   no_parity q i = nil_from_length (parity_writes images layout row q)
       (zero_each (λ q. length (parity_writes images layout row q)) (parities row.chunk.profile) (no_zero mended.parity right.1) q i)
 
   -- nothing is written in it, and no parity counted, whatever images fail
   module _ (also : Failing) (none : mirrors row.chunk ≡ None) where
+    -- it is the same beside other images that fail
     alike : RowAlike images images layout row also
     alike = checked_row images layout row also none no_plain
 
+    -- so nothing is written for it
     quiet_writes : row_writes images layout (beside also row) ≡ []
     quiet_writes =
         row_writes_alike images images layout row also alike
@@ -177,6 +177,7 @@ module _ (images : Images) (layout : Layout) (row : Row) (out : is_row_needed im
         (flat_none (mending_writes images row.failing) row.blocks (λ t i. sound_block images t row.failing (no_plain t i) (row_sound t i).0))
         ∙ flat_none (parity_writes images layout row) (parities row.chunk.profile) no_parity
 
+    -- and no parity is counted
     quiet_parity : sum_by (λ q. length (parity_writes images layout (beside also row) q)) (parities row.chunk.profile) ≡ 0
     quiet_parity = sum_zero (λ q. length (parity_writes images layout (beside also row) q)) (parities row.chunk.profile)
         (λ q i. ap length (alike.parities q i ∙ no_parity q i))
@@ -191,15 +192,18 @@ module _ (images : Images) (layout : Layout) (table : IsTable layout.chunks) (ts
 
   -- with parity
   module _ (parity : mirrors t.chunk ≡ None) where
+    -- its row isn't needed, where there is parity
     row_out : is_row_needed images layout (row_among ts t) ≡ false
     row_out = sym (ap (λ o. cond (is_none o) (is_row_needed images layout (row_among ts t)) (is_copy_needed images layout t)) parity) ∙ out
 
+    -- it is one of its row
     in_own : In t (row_among ts t).blocks
     in_own = in_filter (is_in_row t.chunk t.at.row) t ts i
         (and_from (is_in_chunk t.chunk t) (eqb t.at.row t.at.row) (eq-eqb t.chunk.start t.chunk.start refl) (eq-eqb t.at.row t.at.row refl))
 
   -- a plain sector lies in a chunk with copies without an older image
   module _ (bare : is_plain t.want ≡ true) where
+    -- a sector without a checksum that isn't needed has copies, and no older image
     copied : (n : ℕ) × (mirrors t.chunk ≡ Some n) × (has_older layout.devices t.chunk ≡ false)
     copied = by (mirrors t.chunk) refl
       where
@@ -207,23 +211,28 @@ module _ (images : Images) (layout : Layout) (table : IsTable layout.chunks) (ts
         by None e = absurd (false≢true (sym (no_plain images layout (row_among ts t) (row_out e) t (in_own e)) ∙ bare))
         by (Some n) e = (n, e, sym (ap (λ b. cond b (has_older layout.devices t.chunk) (is_unsound images t)) bare) ∙ copied_out n e)
 
+    -- so no image of its chunk is behind
     inert : (fails : Failing) → has_behind layout.devices fails t.chunk ≡ false
     inert fails = inert_chunk fails layout.devices t.chunk copied.2
 
+    -- nothing is written for it
     plain_writes : (fails : Failing) → mending_writes images fails t ≡ []
     plain_writes fails = ap (λ b. cond b (fresh_writes images fails t) (block_writes images t)) bare ∙ none_fresh fails layout t copied.0 table is copied.1
         (inert fails) images
 
+    -- nothing of it is wrong
     plain_wrong : (fails : Failing) → wrong_parts images fails t ≡ []
     plain_wrong fails = ap (λ b. cond b (stale_parts images fails t) (bad_parts images t)) bare ∙ none_stale fails layout t copied.0 table is copied.1
         (inert fails) images
 
+    -- it fails on no image
     plain_good : (slot : ℕ) (part : Part) → fails_at images t slot part ≡ false
     plain_good slot part = ap (λ b. is_on t slot part && not b) (passes_plain t.setting t.want (element images t part) bare)
         ∙ and-false (is_on t slot part)
 
   -- a sound block
   module _ (checked : is_plain t.want ≡ false) where
+    -- no place of it is bad, and it isn't lost
     sound : (bad_parts images t ≡ []) × (is_lost images t ≡ false)
     sound = by (mirrors t.chunk) refl
       where
@@ -234,14 +243,17 @@ module _ (images : Images) (layout : Layout) (table : IsTable layout.chunks) (ts
             (sym (ap (λ b. cond b (has_older layout.devices t.chunk) (is_unsound images t)) checked) ∙ copied_out n e) in
             (nil_from_length (bad_parts images t) (no_zero (length (bad_parts images t)) both.0), both.1)
 
+    -- so nothing of it is wrong
     sound_wrong : (fails : Failing) → wrong_parts images fails t ≡ []
     sound_wrong fails = ap (λ b. cond b (stale_parts images fails t) (bad_parts images t)) checked ∙ sound.0
 
+    -- and it fails on no image at a place of its own
     sound_good : (slot : ℕ) (part : Part) → In part (own_parts t) → fails_at images t slot part ≡ false
     sound_good slot part i =
         let whole = good part (not-false (is_sound images t part) (none_left (λ part. not (is_sound images t part)) (own_parts t) sound.0 part i)) in
         ap (λ b. is_on t slot part && not b) whole ∙ and-false (is_on t slot part)
       where
+        -- a sound place is good
         good : (part : Part) → is_sound images t part ≡ true → is_good images t part ≡ true
         good (Mirror k) e = (and_parts (is_good images t (Mirror k)) (are_accepted images t (element images t (Mirror k))) e).0
         good (Slice k) e = e
@@ -255,6 +267,7 @@ module _ (images : Images) (layout : Layout) (table : IsTable layout.chunks) (ts
     lost : is_lost_block images t ≡ false
     good : (slot : ℕ) (part : Part) → In part (own_parts t) → fails_at images t slot part ≡ false
 
+  -- whether it has a checksum or not
   nothing_comes : ComesToNothing
   nothing_comes = by (is_plain t.want) refl
     where
@@ -268,6 +281,7 @@ module _ (images : Images) (layout : Layout) (table : IsTable layout.chunks) (ts
         good = sound_good e;
       }
 
+  -- so it fails on no image
   out_good : (slot : ℕ) → fails_on images slot t ≡ false
   out_good slot = list_any-false (fails_at images t slot) (own_parts t) (λ k part e. nothing_comes.good slot part (in_some part (own_parts t) k e))
 
@@ -277,15 +291,19 @@ module _ (images : Images) (layout : Layout) (table : IsTable layout.chunks) (wa
   abbrev ts : List Target
   ts = targets layout wants
 
+  -- whether a block is needed among all
   abbrev needed : Target → Bool
   needed = is_needed images layout ts
 
+  -- the blocks that are needed
   abbrev us : List Target
   us = filter needed ts
 
+  -- each block is at the position that its want has
   placed : (t : Target) → In t ts → IsSought layout t
   placed t i = target_sought layout wants t i
 
+  -- the blocks of the wants that are kept are those that are needed
   targets_kept : (ws : List Want) → targets layout (filter (needs images layout ts) ws) ≡ filter needed (targets layout ws)
   targets_kept [] = refl
   targets_kept (w ∷ ws) = by (sought layout w) refl (targets_kept ws)
@@ -293,9 +311,9 @@ module _ (images : Images) (layout : Layout) (table : IsTable layout.chunks) (wa
       ks : List Want
       ks = filter (needs images layout ts) ws
 
+      -- so it is with one want more, whether it has a position or not
       by : (r : Result Target Fault) → sought layout w ≡ r → targets layout ks ≡ filter needed (targets layout ws)
-          → targets layout (cond (option_map_or needed (ok_or_none r) true) (w ∷ ks) ks)
-          ≡ filter needed (cons_option (ok_or_none r) (targets layout ws))
+          → targets layout (cond (option_map_or needed (ok_or_none r) true) (w ∷ ks) ks) ≡ filter needed (cons_option (ok_or_none r) (targets layout ws))
       by (Err f) e rest = ap (λ r. cons_option (ok_or_none r) (targets layout ks)) e ∙ rest
       by (Ok t) e rest = of (needed t)
         where
@@ -303,9 +321,11 @@ module _ (images : Images) (layout : Layout) (table : IsTable layout.chunks) (wa
           of true = ap (λ r. cons_option (ok_or_none r) (targets layout ks)) e ∙ ap (λ us. t ∷ us) rest
           of false = rest
 
+  -- the wants that are kept
   abbrev ks : List Want
   ks = kept_of images layout wants
 
+  -- so it is with all
   kept_are : targets layout ks ≡ us
   kept_are = targets_kept wants
 
@@ -316,28 +336,31 @@ module _ (images : Images) (layout : Layout) (table : IsTable layout.chunks) (wa
   module _ (fails : Failing) where
     -- a full stripe has the same blocks, or none and nothing comes of it
     module _ (chunk : Chunk) (i : In chunk layout.chunks) (parity : mirrors chunk ≡ None) (k : ℕ) where
-      there : (number : ℕ) × (slice_get layout.chunks number ≡ Some chunk)
-      there = at_in chunk layout.chunks i
+      -- the chunk is one of the table's, with parity
+      of : IsParityChunk layout (at_in chunk layout.chunks i).0 chunk
+      of = record { table = table; there = (at_in chunk layout.chunks i).1; parity = parity }
 
+      -- a block of the row is needed where the row is
       as_row : (t : Target) → In t ts → is_in_row chunk k t ≡ true → needed t ≡ is_row_needed images layout (row_of (flagged []) ts chunk k)
       as_row t j e =
           let both = and_parts (is_in_chunk chunk t) (eqb t.at.row k) e in
-          let mine = same_start layout table there.0 chunk there.1 parity t (placed t j) both.0 in
+          let mine = same_start of t (placed t j) both.0 in
           ap (λ c. cond (is_none (mirrors c)) (is_row_needed images layout (row_of (flagged []) ts c t.at.row)) (is_copy_needed images layout t)) mine
           ∙ ap (λ n. cond (is_none (mirrors chunk)) (is_row_needed images layout (row_of (flagged []) ts chunk n)) (is_copy_needed images layout t))
           (eqb-true t.at.row k both.1)
           ∙ ap (λ o. cond (is_none o) (is_row_needed images layout (row_of (flagged []) ts chunk k)) (is_copy_needed images layout t)) parity
 
+      -- so the row has all its blocks, or none of them and isn't needed
       same_or_none : (filter (is_in_row chunk k) us ≡ filter (is_in_row chunk k) ts)
           ⊎ ((filter (is_in_row chunk k) us ≡ []) × (is_row_needed images layout (row_of (flagged []) ts chunk k) ≡ false))
       same_or_none = by (is_row_needed images layout (row_of (flagged []) ts chunk k)) refl
         where
+          -- a block that is needed isn't in a row all of whose blocks aren't
           none : (t : Target) → needed t ≡ true → (b : Bool) → is_in_row chunk k t ≡ b → (b ≡ true → needed t ≡ false) → b ≡ false
           none t is true e out = absurd (false≢true (sym (out refl) ∙ is))
           none t is false e out = refl
 
-          by : (b : Bool) → is_row_needed images layout (row_of (flagged []) ts chunk k) ≡ b
-              → (filter (is_in_row chunk k) us ≡ filter (is_in_row chunk k) ts)
+          by : (b : Bool) → is_row_needed images layout (row_of (flagged []) ts chunk k) ≡ b → (filter (is_in_row chunk k) us ≡ filter (is_in_row chunk k) ts)
               ⊎ ((filter (is_in_row chunk k) us ≡ []) × (is_row_needed images layout (row_of (flagged []) ts chunk k) ≡ false))
           by true e = inl (filter_both needed (is_in_row chunk k) ts (λ t j in_it. as_row t j in_it ∙ e))
           by false e = inr (
@@ -347,8 +370,8 @@ module _ (images : Images) (layout : Layout) (table : IsTable layout.chunks) (wa
             e,
           )
 
-      same_row : {X : Type 0} (of : Row → X) (nothing : X)
-          → ((row : Row) → row.blocks ≡ [] → of row ≡ nothing)
+      -- what comes of a row comes of it without the others
+      same_row : {X : Type 0} (of : Row → X) (nothing : X) → ((row : Row) → row.blocks ≡ [] → of row ≡ nothing)
           → (is_row_needed images layout (row_of (flagged []) ts chunk k) ≡ false → of (row_of fails ts chunk k) ≡ nothing)
           → of (row_of fails us chunk k) ≡ of (row_of fails ts chunk k)
       same_row of nothing empty quiet = elim same_or_none [
@@ -356,17 +379,21 @@ module _ (images : Images) (layout : Layout) (table : IsTable layout.chunks) (wa
         | inr none ↦ empty (row_of fails us chunk k) none.0 ∙ sym (quiet none.1)
       ]
 
+      -- so it is with its writes
       row_written : row_writes images layout (row_of fails us chunk k) ≡ row_writes images layout (row_of fails ts chunk k)
       row_written = same_row (row_writes images layout) [] (λ row e. empty_writes images layout row e)
           (λ out. quiet_writes images layout (row_of (flagged []) ts chunk k) out fails parity)
 
+      -- how many writes a row's parities have
       abbrev parity_of : Row → ℕ
       parity_of r = sum_by (λ q. length (parity_writes images layout r q)) (parities r.chunk.profile)
 
+      -- and with its parities
       row_parity : (write : Bool) → parity_of (row_of fails us chunk k) ≡ parity_of (row_of fails ts chunk k)
       row_parity write = same_row parity_of 0 (parity_none fails images layout write us)
           (λ out. quiet_parity images layout (row_of (flagged []) ts chunk k) out fails parity)
 
+    -- the same is written in each chunk
     same_writes : (chunk : Chunk) → In chunk layout.chunks → chunk_writes_for fails layout chunk ks images ≡ chunk_writes_for fails layout chunk wants images
     same_writes chunk i =
         ap (λ vs. cond (is_none (mirrors chunk)) (rows_writes layout (rows_in fails vs chunk) images)
@@ -376,27 +403,32 @@ module _ (images : Images) (layout : Layout) (table : IsTable layout.chunks) (wa
         (flat_both needed (mending_writes images fails) (is_in_chunk chunk) ts
         (λ t i e. (nothing_comes images layout table ts t i (placed t i) e).writes fails))
       where
+        -- the numbers of the chunk's rows
         n : List ℕ
         n = range_with_len 0 (stripe_length chunk / 65536)
 
-        by : (o : Option ℕ) → mirrors chunk ≡ o
-            → rows_writes layout (cond (is_none o) (map (row_of fails us chunk) n) []) images ≡ rows_writes layout
+        -- the rows of a chunk are written alike
+        by : (o : Option ℕ) → mirrors chunk ≡ o → rows_writes layout (cond (is_none o) (map (row_of fails us chunk) n) []) images ≡ rows_writes layout
             (cond (is_none o) (map (row_of fails ts chunk) n) []) images
         by None e = flat_mapped (row_writes images layout) (row_writes images layout) (row_of fails us chunk) (row_of fails ts chunk) n
             (λ k _. row_written chunk i e k)
         by (Some m) e = refl
 
+    -- the same is written in all
     all_writes : all_writes_for fails layout layout.chunks ks images ≡ all_writes_for fails layout layout.chunks wants images
     all_writes = flat_same (λ chunk. chunk_writes_for fails layout chunk ks images)
         (λ chunk. chunk_writes_for fails layout chunk wants images) layout.chunks same_writes
 
     module _ (write : Bool) (unchecked : ℕ) where
+      -- how many checked blocks are left out
       abbrev left : ℕ
       left = left_out images layout wants
 
+      -- what the parities of a row add to the count
       abbrev parity_counted : Row → ℕ
       parity_counted = parity_in fails images layout write us
 
+      -- the same parities are counted
       parity_same : sum_by parity_counted (flat_map (rows_in fails us) layout.chunks) ≡ sum_by parity_counted (flat_map (rows_in fails ts) layout.chunks)
       parity_same =
           sum_flat parity_counted (rows_in fails us) layout.chunks
@@ -404,6 +436,7 @@ module _ (images : Images) (layout : Layout) (table : IsTable layout.chunks) (wa
           (λ chunk i. by chunk i (mirrors chunk) refl)
           ∙ sym (sum_flat parity_counted (rows_in fails ts) layout.chunks)
         where
+          -- in each chunk the same parities are counted
           by : (chunk : Chunk) → In chunk layout.chunks → (o : Option ℕ) → mirrors chunk ≡ o
               → sum_by parity_counted (cond (is_none o) (map (row_of fails us chunk) (range_with_len 0 (stripe_length chunk / 65536))) [])
               ≡ sum_by parity_counted (cond (is_none o) (map (row_of fails ts chunk) (range_with_len 0 (stripe_length chunk / 65536))) [])
@@ -414,6 +447,7 @@ module _ (images : Images) (layout : Layout) (table : IsTable layout.chunks) (wa
               ∙ sym (sum_map parity_counted (row_of fails ts chunk) n)
           by chunk i (Some m) e = refl
 
+      -- the same is counted for all, begun with those that are left out
       all_counts : all_count_for fails layout write layout.chunks ks images (begun (stood left) (stood unchecked))
           ≡ all_count_for fails layout write layout.chunks wants images (begun (stood 0) (stood unchecked))
       all_counts =
@@ -421,17 +455,14 @@ module _ (images : Images) (layout : Layout) (table : IsTable layout.chunks) (wa
           (sites_count fails write (filter (is_in_chunk chunk) vs) images tally)) (begun (stood left) (stood unchecked)) layout.chunks) kept_are
           ∙ counts_are fails images layout write us table (λ t i. placed t (passing_filter needed t ts i).0) left unchecked
           ∙ same_tally (counts_of fails images layout write us table (λ t i. placed t (passing_filter needed t ts i).0) left unchecked)
-          (counts_of fails images layout write ts table placed 0 unchecked)
-          (ap stood (length_both needed is_checked ts ∙ omega arith))
+          (counts_of fails images layout write ts table placed 0 unchecked) (ap stood (length_both needed is_checked ts ∙ omega arith))
           (ap stood (sum_both needed (λ t. length (wrong_parts images fails t)) ts
           (λ t i e. ap length ((nothing_comes images layout table ts t i (placed t i) e).wrong fails))))
           (ap (λ n. stood (cond write n 0)) (sum_both needed (λ t. length (mending_writes images fails t)) ts
-          (λ t i e. ap length ((nothing_comes images layout table ts t i (placed t i) e).writes fails))))
-          (ap stood lost_same)
-          (ap stood parity_same)
-          refl
+          (λ t i e. ap length ((nothing_comes images layout table ts t i (placed t i) e).writes fails)))) (ap stood lost_same) (ap stood parity_same) refl
           ∙ sym (counts_are fails images layout write ts table placed 0 unchecked)
         where
+          -- the same are lost
           lost_same : count_by (is_lost images) (filter is_checked us) ≡ count_by (is_lost images) (filter is_checked ts)
           lost_same =
               sym (lost_sum fails images layout write us table (λ t i. placed t (passing_filter needed t ts i).0))
@@ -439,12 +470,14 @@ module _ (images : Images) (layout : Layout) (table : IsTable layout.chunks) (wa
               (λ t i e. ap (λ b. cond b 1 0) (nothing_comes images layout table ts t i (placed t i) e).lost)
               ∙ lost_sum fails images layout write ts table placed
 
+-- the writes for those that are kept are the writes for all
 pub kept_writes : KeptWrites
 kept_writes images layout wants table =
     ap (λ fails. all_writes_for fails layout layout.chunks (kept_of images layout wants) images)
     (ap (failing images) (kept_are images layout table wants) ∙ same_failing images layout table wants)
     ∙ all_writes images layout table wants (failing images (targets layout wants))
 
+-- the counts of those that are kept, begun with those that are left out, are the counts of all
 pub kept_counts : KeptCounts
 kept_counts images layout write wants unchecked table =
     ap (λ fails. all_count_for fails layout write layout.chunks (kept_of images layout wants) images

@@ -1,33 +1,20 @@
 -- What isn't wrong stays.
 use Rattle.std.proofs.Common.{◌≡◌, ◌⊎◌, ℕ, ◌+◌, ◌-◌, ◌<◌, ◌≤◌, Bool, true, false, List, [], length, get_or, slice_get, Option, Some, None, IsSome, IsSomeAnd}
 use Rattle.std.proofs.Common.{is_some, refl, sym, ap, ◌∙◌, subst, inl, inr, arith}
-use Rattle.std.proofs.lemmas.Bool.{false≢true, false_from_ne_true}
-use Rattle.std.proofs.lemmas.Option.{same_Some}
-use Rattle.std.specs.List.{filter, list_any}
-use Rattle.std.specs.Option.{option_map_or}
-use Rattle.btr_chunk.specs.Chunk.{mirrors}
-use Rattle.btr_chunk.specs.Mapping.{place_at, stripe_of}
-use Rattle.btr_chunk.specs.Table.{IsTable}
-use Rattle.btr_chunk.specs.declared.chunk.Chunk.{Chunk}
-use Rattle.btr_chunk.specs.declared.place.Part.{Part}
-use Rattle.btr_rack.specs.Rack.{bytes_of, image_of, range_in}
+use Rattle.btr_scrub.proofs.Common.{Chunk, Failing, HaveOwnSlots, Images, IsOfElement, IsTable, Layout, Part, Row, Target, device_in, false_from_ne_true}
+use Rattle.btr_scrub.proofs.Common.{false≢true, filter, image_of, is_in_row, length-slice_range, list_any, mirrors, option_map_or, place_at, range_in}
+use Rattle.btr_scrub.proofs.Common.{range_in_element, range_stands, same_Some, stands_on, stripe_of}
+use Rattle.btr_rack.specs.Rack.{bytes_of}
 use Rattle.btr_rack.specs.declared.place.Place.{Place as Range}
-use Rattle.btr_read.specs.Candidates.{Target}
-use Rattle.btr_read.specs.Layout.{HaveOwnSlots, Layout, device_in}
-use Rattle.btr_read.proofs.Pieces.{length-slice_range}
-use Rattle.btr_scrub.specs.Places.{IsOfElement}
-use Rattle.btr_scrub.specs.Repair.{covers, is_in_row}
+use Rattle.btr_scrub.specs.Repair.{covers}
 use Rattle.btr_scrub.specs.Columns.{Committed, IsWrongAt}
-use Rattle.btr_scrub_row.specs.Rows.{Row, element, range_in_element}
+use Rattle.btr_scrub_row.specs.Rows.{element}
 use Rattle.btr_scrub.specs.Staying.{AvoidRight, IsInCopies, IsInWrong, IsRowOf, RightStays, RowOutlivesWrites}
-use Rattle.btr_scrub_row.proofs.Elements.{range_stands, stands_on}
 use Rattle.btr_chunk.specs.Apart.{LiesIn}
 use Rattle.btr_chunk.proofs.Apart.{stripes_apart}
 use Rattle.btr_scrub.proofs.Places.{covered, elements_apart, is_at}
 use Rattle.btr_scrub.proofs.Columns.{row_survives}
 use Rattle.btr_scrub.proofs.Survival.{at_range}
-use Rattle.btr_scrub_copies.specs.Fresh.{Failing}
-use Rattle.btr_scrub_copies.specs.Writes.{Images}
 
 -- one place of an element has a byte of a slot
 same_place : (o : Option Range) (off x y : ℕ) → IsSomeAnd o (λ range. off ≡ range.off + x) → IsSomeAnd o (λ range. off ≡ range.off + y) → x ≡ y
@@ -74,14 +61,17 @@ module _ (images : Images) (layout : Layout) (C : Committed) (fails : Failing) (
       let chunk : row.chunk ≡ c.lies.chunk = same_Some row.chunk c.lies.chunk (sym of.there ∙ ap (slice_get layout.chunks) both.0 ∙ c.lies.there) in
       false≢true (sym (ap (λ k. is_some (mirrors k)) (sym chunk) ∙ ap is_some is_row.parity) ∙ c.copies)
 
+  -- ranges all of whose bytes are wrong, or lie in chunks with copies, don't cover the byte
   not_in_ranges : (ranges : List Range) → AvoidRight images layout C fails blocks ranges → list_any (covers slot off) ranges ≡ false
   not_in_ranges ranges avoid = false_from_ne_true (list_any (covers slot off) ranges) (λ e.
       elim (avoid slot off e) [ inl w ↦ absurd (not_wrong w) | inr c ↦ absurd (not_copies c) ])
 
+-- a range is there, or it isn't
 none_or : (o : Option Range) → (IsSome o → (x : Range) × (o ≡ Some x)) × ((b : Bool) → is_some o ≡ b → (o ≡ None) ⊎ IsSome o)
 none_or None = ((λ h. absurd (false≢true h)), λ b e. inl refl)
 none_or (Some r) = ((λ h. (r, refl)), λ b e. inr refl)
 
+-- all that isn't wrong in a row stays, whatever is written in ranges of wrong bytes and of chunks with copies
 pub right_stays : RightStays
 right_stays images left layout C fails blocks row ranges table own lengths is_row avoid keeps = record {
   lengths = λ q has. elim ((none_or (range q)).1 (is_some (range q)) refl) [
@@ -114,9 +104,11 @@ right_stays images left layout C fails blocks row ranges table own lengths is_ro
   ];
 }
   where
+    -- where an element of the row lies
     range : Part → Option Range
     range q = range_in_element layout row q 0 65536
 
+    -- the bytes of an element are those of its range
     bytes_there : (now : Images) (q : Part) (o : Option Range) → range q ≡ o → element now layout row q
         ≡ option_map_or (λ r. bytes_of now r.slot r.off r.len) o []
     bytes_there now q o e = ap (λ (o : Option Range). option_map_or (λ r. bytes_of now r.slot r.off r.len) o []) e
@@ -129,6 +121,7 @@ right_stays images left layout C fails blocks row ranges table own lengths is_ro
         let e = range_stands place.offset 65536 (device_in layout.devices place.devid) s.device s.there s.within in
         (range_in s.device.slot place.offset 65536, e, omega (arith, s.within, lengths place.devid s.device s.there), refl)
 
+-- behind such writes a checked block, right at its own place or with few elements wrong there, can be had still
 pub row_outlives_writes : RowOutlivesWrites
 row_outlives_writes images left layout C fails blocks row ranges t table own lengths is_row avoid keeps sound pass spared among checked =
     row_survives images left layout C row t sound pass spared

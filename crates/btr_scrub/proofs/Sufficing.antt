@@ -2,38 +2,18 @@
 use Rattle.std.proofs.Common.{◌≡◌, ℕ, Bool, true, false, cond, ◌||◌, List, [], ◌∷◌, Some, None, is_none, IfSome, OnOk, Result, Err, refl, sym, ap, ◌∙◌, subst}
 use Rattle.std.proofs.Common.{inl, inr}
 use Rattle.std.proofs.Math.Path.{fun_ext}
-use Rattle.std.proofs.lemmas.Bool.{false≢true}
-use Rattle.std.specs.List.{list_any}
-use Rattle.btr_chunk.specs.Chunk.{mirrors}
-use Rattle.btr_chunk.specs.Table.{IsTable}
-use Rattle.btr_chunk.specs.declared.chunk.Chunk.{Chunk}
-use Rattle.btr_rack.specs.Rack.{NoneFailed, OnlyReads, Seen}
-use Rattle.btr_rack.proofs.Reading.{reads_more}
-use Rattle.btr_read.specs.Candidates.{Target}
-use Rattle.btr_read.specs.Fate.{is_plain}
-use Rattle.btr_read.specs.Layout.{HaveOwnSlots, Layout}
-use Rattle.btr_read.specs.declared.want.Want.{Want}
-use Rattle.btr_read.proofs.Fates.{sought_of}
-use Rattle.btr_scrub_copies.specs.Blocks.{block_writes, accepted, bad_parts}
-use Rattle.btr_scrub_copies.specs.Mending.{mended_of}
-use Rattle.btr_scrub_copies.specs.Syncing.{Strands, plain}
-use Rattle.btr_scrub_copies.specs.Turns.{waiting}
-use Rattle.btr_scrub_copies.specs.Writes.{AccountsMend, Images, Write, writes_if}
-use Rattle.btr_scrub_copies.specs.declared.mended.MendFault.{MendFault}
-use Rattle.btr_scrub_copies.specs.declared.mended.MendFault.TheVariants.{Image, Memory}
+use Rattle.btr_scrub.proofs.Common.{AccountsMend, Chunk, Failing, HaveOwnSlots, Image, Images, IsOfScrub, IsSought, IsTable, Layout, LiesInStripe, Memory}
+use Rattle.btr_scrub.proofs.Common.{MendFault, NoneFailed, OnlyReads, Seen, Tally, Target, Want, Works, Write, accepted, all_count_for, all_writes_for}
+use Rattle.btr_scrub.proofs.Common.{bad_parts, block_writes, chunk_count_for, chunk_writes_for, counted, counted_plain, failing, false≢true, first_missing}
+use Rattle.btr_scrub.proofs.Common.{flagged, has_behind, has_older, is_in_chunk, is_in_row, is_plain, list_any, listed_count_for, listed_writes_for}
+use Rattle.btr_scrub.proofs.Common.{mended_of, mirrors, passing_filter, plain, reads_more, row_of, sites_in, sought_of, stale_parts, targets, waiting}
+use Rattle.btr_scrub.proofs.Common.{writes_if}
+use Rattle.btr_scrub_copies.specs.Syncing.{Strands}
 use Rattle.btr_scrub_copies.proofs.Doing.{does_behind, does_failed}
-use Rattle.btr_scrub_copies.proofs.Syncs.{passing_filter}
 use Rattle.btr_scrub_copies.proofs.Turning.{read_at, reads_plain, strands_none}
-use Rattle.btr_scrub.specs.Doubts.{failing}
-use Rattle.btr_scrub_copies.specs.Fresh.{Failing, flagged, stale_parts}
 use Rattle.btr_scrub.specs.BlocksInRows.{In}
-use Rattle.btr_scrub.specs.Judged.{AreFailing, IsIdle, Suffices, has_behind, has_older, some_older, some_parity}
-use Rattle.btr_scrub.specs.WrittenRanges.{LiesInStripe}
-use Rattle.btr_scrub.specs.Order.{IsSought, targets}
-use Rattle.btr_scrub.specs.Repair.{first_missing, is_in_chunk, is_in_row, row_of}
-use Rattle.btr_scrub.specs.Scrubbing.{IsOfScrub, Works, all_count_for, all_writes_for, chunk_count_for, chunk_writes_for, counted, counted_plain, sites_in}
-use Rattle.btr_scrub.specs.Whole.{listed_count_for, listed_failing, listed_writes_for}
-use Rattle.btr_scrub.specs.declared.tally.Tally.{Tally}
+use Rattle.btr_scrub.specs.Judged.{AreFailing, IsIdle, Suffices, some_older, some_parity}
+use Rattle.btr_scrub.specs.Whole.{listed_failing}
 use Rattle.btr_scrub.proofs.AcrossChunks.{of_chunk, chunk_alike, chunk_counted}
 use Rattle.btr_scrub.proofs.Blockwise.{of_targets}
 use Rattle.btr_scrub.proofs.Inert.{inert_chunk, none_fresh, none_freshened, none_stale, none_renewed}
@@ -51,11 +31,13 @@ module _ (kept also : Failing) (layout : Layout) (wants : List Want) (images : I
     pub rows : mirrors chunk ≡ None → (number : ℕ) → RowAlike images images layout (row_of also (targets layout wants) chunk number) kept
     pub sites : (n : ℕ) → mirrors chunk ≡ Some n → (t : Target) → In t (sites_in layout chunk wants) → SiteAlike also kept images images t
 
+  -- chunks in which the same is written are written alike
   pub all_writes_alike : (chunks : List Chunk) → ((chunk : Chunk) → In chunk chunks → Alike chunk)
       → all_writes_for kept layout chunks wants images ≡ all_writes_for also layout chunks wants images
   all_writes_alike chunks h = flat_same (λ chunk. chunk_writes_for kept layout chunk wants images) (λ chunk. chunk_writes_for also layout chunk wants images)
       chunks (λ chunk i. chunk_alike kept also images images layout wants chunk (λ none k _. (h chunk i).rows none k) (h chunk i).sites)
 
+  -- and counted alike
   pub all_count_alike : (write : Bool) (chunks : List Chunk) (tally : Tally) → ((chunk : Chunk) → In chunk chunks → Alike chunk)
       → all_count_for kept layout write chunks wants images tally ≡ all_count_for also layout write chunks wants images tally
   all_count_alike write chunks tally h = fold_same (λ x chunk. chunk_count_for kept layout write chunk wants images x)
@@ -64,10 +46,12 @@ module _ (kept also : Failing) (layout : Layout) (wants : List Want) (images : I
 
 -- ---- flags that suffice
 
+-- where no chunk of a list is found to have parity, each has copies
 no_parity : (chunk : Chunk) (chunks : List Chunk) → some_parity chunks ≡ false → In chunk chunks → mirrors chunk ≡ None → ⊥
 no_parity chunk [] e i none = i
 no_parity chunk (c ∷ chunks) e i none = by (is_none (mirrors c)) refl e i (λ e j. no_parity chunk chunks e j none)
   where
+    -- so it is whether the first has parity or not
     by : (b : Bool) → is_none (mirrors c) ≡ b → (b || some_parity chunks) ≡ false → In chunk (c ∷ chunks)
         → (some_parity chunks ≡ false → In chunk chunks → ⊥) → ⊥
     by true is e i rest = false≢true (sym e)
@@ -102,9 +86,11 @@ not_plain layout wants t i none =
 module _ (layout : Layout) (wants : List Want) (rack : Seen) (flags : List Bool) (table : IsTable layout.chunks)
     (own : HaveOwnSlots layout.devices) (given : first_missing layout ≡ None)
     (suffice : Suffices layout wants rack flags) (images : Images) (held : rack.held ≡ Some images) where
+  -- the images that are flagged
   abbrev by_flags : Failing
   by_flags = flagged flags
 
+  -- the images on which some of the wants' blocks fails
   abbrev by_images : Failing
   by_images = listed_failing layout wants images
 
@@ -135,16 +121,19 @@ module _ (layout : Layout) (wants : List Want) (rack : Seen) (flags : List Bool)
             (fails-list_any (has_older layout.devices) layout.chunks young at.0 chunk at.1));
       }
 
+  -- where it doesn't matter which images fail, each chunk is written and counted alike
   all_idle : IsIdle layout wants → (chunk : Chunk) → In chunk layout.chunks → Alike by_flags by_images layout wants images chunk
   all_idle (inl none) chunk i = all_checked none chunk
   all_idle (inr young) chunk i = all_young young.0 young.1 chunk i
 
+  -- the writes by the flags are those for the list
   pub flags_write : all_writes_for by_flags layout layout.chunks wants images ≡ listed_writes_for layout wants images
   flags_write = elim suffice [
     | inl idle ↦ all_writes_alike by_flags by_images layout wants images layout.chunks (all_idle idle)
     | inr are ↦ ap (λ d. all_writes_for d layout layout.chunks wants images) (failing_same are)
   ]
 
+  -- and so are the counts
   pub flags_count : (write : Bool) (tally : Tally)
       → all_count_for by_flags layout write layout.chunks wants images tally ≡ listed_count_for layout write wants images tally
   flags_count write tally = elim suffice [
@@ -168,6 +157,7 @@ module _ (layout : Layout) (write : Bool) (f : Images → List Write) (c : Image
     unwritten = λ w. reads_more reads (h.unwritten w);
   }
 
+  -- a call that failed in a stripe failed at a place of a scrub
   account_scrub : (B : Type 0) (e : MendFault) → AccountsMend {A = B} (LiesInStripe layout) a b (Err e)
       → AccountsMend {A = Unit {0}} (IsOfScrub layout) (plain a) (plain b) (Err e)
   account_scrub B (Image slot) h = record {
@@ -193,12 +183,10 @@ module _ (layout : Layout) (write : Bool) (f : Images → List Write) (c : Image
   }
 
 -- a work beside flags that suffice, behind the reads that came to them
-pub works_beside : (layout : Layout) (write : Bool) (wants : List Want) (flags : List Bool) (a b z : Seen) (t u : Tally)
-    (r : Result (Unit {0}) MendFault)
+pub works_beside : (layout : Layout) (write : Bool) (wants : List Want) (flags : List Bool) (a b z : Seen) (t u : Tally) (r : Result (Unit {0}) MendFault)
     → IsTable layout.chunks → HaveOwnSlots layout.devices → first_missing layout ≡ None
     → OnlyReads a b → NoneFailed a.account b.account → Suffices layout wants a flags
-    → Works layout write (all_writes_for (flagged flags) layout layout.chunks wants)
-    (all_count_for (flagged flags) layout write layout.chunks wants) b z t u r
+    → Works layout write (all_writes_for (flagged flags) layout layout.chunks wants) (all_count_for (flagged flags) layout write layout.chunks wants) b z t u r
     → Works layout write (listed_writes_for layout wants) (listed_count_for layout write wants) a z t u r
 works_beside layout write wants flags a b z t u r table own given reads none suffice h =
     let d = flagged flags in
@@ -207,6 +195,4 @@ works_beside layout write wants flags a b z t u r table own given reads none suf
     (λ images held. (
       flags_write layout wants a flags table own given suffice images held,
       flags_count layout wants a flags table own given suffice images held write t,
-    ))
-    (works_behind layout write (all_writes_for d layout layout.chunks wants) (all_count_for d layout write layout.chunks wants)
-    a b reads z t u r none h)
+    )) (works_behind layout write (all_writes_for d layout layout.chunks wants) (all_count_for d layout write layout.chunks wants) a b reads z t u r none h)

@@ -1,33 +1,38 @@
 -- Sums over lists that are taken apart.
 use Rattle.std.proofs.Common.{◌≡◌, ◌≢◌, ℕ, zero, suc, ◌+◌, Bool, true, false, cond, List, [], ◌∷◌, map, length, slice_get, Some, refl, sym, ap, ◌∙◌, inl, inr}
 use Rattle.std.proofs.Common.{arith, zero-add}
-use Rattle.std.proofs.lemmas.List.Sums.{sum_by-append, sum_by-cons}
-use Rattle.std.proofs.lemmas.Option.{same_Some}
-use Rattle.std.specs.List.{filter, flat_map, sum_by}
+use Rattle.btr_scrub.proofs.Common.{filter, flat_map, same_Some, sum_by, sum_by-cons}
+use Rattle.std.proofs.lemmas.List.Sums.{sum_by-append}
 use Rattle.btr_scrub.specs.BlocksInRows.{In}
 use Rattle.btr_scrub.proofs.AcrossChunks.{sum_same}
 use Rattle.btr_scrub.proofs.Lists.{at_in}
 
+-- a sum of nothing is nothing
 pub sum_zero : {X : Type 0} (f : X → ℕ) (xs : List X) → ((x : X) → In x xs → f x ≡ 0) → sum_by f xs ≡ 0
 sum_zero f [] h = refl
 sum_zero f (x ∷ xs) h = sum_by-cons f x xs ∙ omega (arith, h x (inl refl), sum_zero f xs (λ y i. h y (inr i)))
 
+-- a sum of ones is how many there are
 pub sum_one : {X : Type 0} (xs : List X) → sum_by (λ (x : X). 1) xs ≡ length xs
 sum_one [] = refl
 sum_one (x ∷ xs) = sum_by-cons (λ y. 1) x xs ∙ omega (arith, sum_one xs)
 
+-- a sum of sums is the sum of both
 pub sum_add : {X : Type 0} (f g : X → ℕ) (xs : List X) → sum_by (λ x. f x + g x) xs ≡ sum_by f xs + sum_by g xs
 sum_add f g [] = refl
 sum_add f g (x ∷ xs) = sum_by-cons (λ y. f y + g y) x xs ∙ omega (arith, sum_add f g xs, sum_by-cons f x xs, sum_by-cons g x xs)
 
+-- a sum over what is mapped is one over the members
 pub sum_map : {X Y : Type 0} (f : Y → ℕ) (g : X → Y) (xs : List X) → sum_by f (map g xs) ≡ sum_by (λ x. f (g x)) xs
 sum_map f g [] = refl
 sum_map f g (x ∷ xs) = sum_by-cons f (g x) (map g xs) ∙ ap (λ n. f (g x) + n) (sum_map f g xs) ∙ sym (sum_by-cons (λ y. f (g y)) x xs)
 
+-- a sum over all is the sum of each member's
 pub sum_flat : {X Y : Type 0} (f : Y → ℕ) (g : X → List Y) (xs : List X) → sum_by f (flat_map g xs) ≡ sum_by (λ x. sum_by f (g x)) xs
 sum_flat f g [] = refl
 sum_flat f g (x ∷ xs) = sum_by-append f (g x) (flat_map g xs) ∙ ap (λ n. sum_by f (g x) + n) (sum_flat f g xs) ∙ sym (sum_by-cons (λ y. sum_by f (g y)) x xs)
 
+-- a sum over those that pass counts nothing for the others
 pub sum_filter : {X : Type 0} (f : X → ℕ) (p : X → Bool) (xs : List X) → sum_by f (filter p xs) ≡ sum_by (λ x. cond (p x) (f x) 0) xs
 sum_filter f p [] = refl
 sum_filter f p (x ∷ xs) = by (p x) refl (sum_filter f p xs)
@@ -50,6 +55,7 @@ sum_swap g (k ∷ ks) xs =
 abbrev pub IsOnce : {K : Type 0} → (K → Bool) → List K → Type 0
 IsOnce {K} p ks = (i : ℕ) × ((k : K) × (slice_get ks i ≡ Some k) × (p k ≡ true) × ((j : ℕ) (other : K) → j ≢ i → slice_get ks j ≡ Some other → p other ≡ false))
 
+-- where one member of a list alone passes a test, what is added for those that pass is added once
 once_sum : {K : Type 0} (n : ℕ) (p : K → Bool) (ks : List K) (i : ℕ) (k : K) → slice_get ks i ≡ Some k → p k ≡ true
     → ((j : ℕ) (other : K) → j ≢ i → slice_get ks j ≡ Some other → p other ≡ false) → sum_by (λ k. cond (p k) n 0) ks ≡ n
 once_sum n p [] i k at is others = cc
@@ -58,15 +64,13 @@ once_sum n p (l ∷ ks) zero k at is others =
     sum_by-cons (λ k. cond (p k) n 0) l ks ∙ omega (
       arith,
       ap (λ b. cond b n 0) (ap p same ∙ is),
-      sum_zero (λ k. cond (p k) n 0) ks
-          (λ x j. let r = at_in x ks j in ap (λ b. cond b n 0) (others (suc r.0) x (λ e. omega (arith, e)) r.1)),
+      sum_zero (λ k. cond (p k) n 0) ks (λ x j. let r = at_in x ks j in ap (λ b. cond b n 0) (others (suc r.0) x (λ e. omega (arith, e)) r.1)),
     )
 once_sum n p (l ∷ ks) (suc i) k at is others =
     sum_by-cons (λ k. cond (p k) n 0) l ks ∙ omega (
       arith,
       ap (λ b. cond b n 0) (others 0 l (λ e. omega (arith, e)) refl),
-      once_sum n p ks i k at is
-          (λ j other ne found. others (suc j) other (λ e. ne (omega (arith, e))) found),
+      once_sum n p ks i k at is (λ j other ne found. others (suc j) other (λ e. ne (omega (arith, e))) found),
     )
 
 -- a sum part by part, where each member is in one part

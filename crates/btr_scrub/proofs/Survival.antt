@@ -1,40 +1,30 @@
 -- The blocks of a full stripe as they should be.
 use Rattle.std.proofs.Common.{◌≡◌, ℕ, ◌+◌, ◌-◌, ◌<◌, ◌≤◌, Bool, true, false, cond, eqb, List, [], ◌∷◌, ◌++◌, length, get_or, take, drop, slice_range, Option}
 use Rattle.std.proofs.Common.{Some, None, IfSome, IsNone, All, refl, sym, ap, ◌∙◌, subst, inl, inr, arith}
-use Rattle.std.proofs.lemmas.Bool.{eq-eqb, cases_lt}
+use Rattle.btr_scrub.proofs.Common.{HasPart, Images, IsSlice, IsSoundRow, Layout, Part, Row, Target, blocks_at, cases_lt, device_in, element_with, eq-eqb}
+use Rattle.btr_scrub.proofs.Common.{filter, image_of, is_plain, length-pasted, length-slice_range, mirror_count, new_bytes, option_map_or, parity_p, parity_q}
+use Rattle.btr_scrub.proofs.Common.{passing_filter, pasted, place_at, range_stands, right_for, size_of, slices_with, stands_on}
 use Rattle.std.proofs.lemmas.List.{ext_get_or, get_or-take, get_or-drop, get_or_past}
 use Rattle.std.proofs.lemmas.List.Elements.{All-append, All-nil, All-take, All-drop}
 use Rattle.std.proofs.lemmas.List.FromFn.{length-map-range_with_len, get_or-map-range_with_len}
-use Rattle.std.specs.List.{filter, fold}
-use Rattle.std.specs.Option.{option_map_or}
-use Rattle.btr_chunk.specs.Chunk.{mirror_count}
-use Rattle.btr_chunk.specs.Mapping.{HasPart, place_at}
-use Rattle.btr_chunk.specs.declared.place.Part.{Part}
+use Rattle.std.specs.List.{fold}
 use Rattle.btr_chunk.specs.declared.place.Part.TheVariants as part
-use Rattle.btr_parity.specs.Slices.{IsSlice, parity_p, parity_q}
 use Rattle.btr_parity.specs.Ways.{Stripe, IsConsistent}
 use Rattle.btr_parity.proofs.Lost.{parity_p_slice, weighted_slice}
-use Rattle.btr_rack.specs.Rack.{bytes_of, image_of, pasted}
+use Rattle.btr_rack.specs.Rack.{bytes_of}
 use Rattle.btr_rack.specs.declared.place.Place.{Place as Range}
-use Rattle.btr_read.specs.Candidates.{Target, size_of}
-use Rattle.btr_read.specs.Layout.{Layout, device_in}
-use Rattle.btr_read.specs.Fate.{is_plain}
-use Rattle.btr_read.proofs.Pieces.{length-slice_range}
-use Rattle.btr_scrub_row.specs.Wanted.{new_bytes}
 use Rattle.btr_scrub.specs.BlocksInRows.{In, right_bytes}
-use Rattle.btr_scrub.specs.Columns.{Committed, right_for}
+use Rattle.btr_scrub.specs.Columns.{Committed}
 use Rattle.btr_scrub_row.specs.Rows as rows
-use Rattle.btr_scrub_row.specs.Rows.{Row, blocks_at, element, element_with, slice_with, slices_with, with_block}
-use Rattle.btr_scrub.specs.Survival.{AreBehind, ElementsAreSlices, IsSoundRow}
-use Rattle.btr_scrub_row.proofs.Elements.{range_stands, stands_on}
-use Rattle.btr_scrub_row.proofs.Pasted.{length-pasted, pasted-below, range_pasted}
+use Rattle.btr_scrub_row.specs.Rows.{element, slice_with, with_block}
+use Rattle.btr_scrub.specs.Survival.{AreBehind, ElementsAreSlices}
+use Rattle.btr_scrub_row.proofs.Pasted.{pasted-below, range_pasted}
 use Rattle.btr_scrub.proofs.Stripes.{no_mirror}
-use Rattle.btr_scrub_copies.specs.Writes.{Images}
 use Rattle.btr_scrub.proofs.Lists.{in_filter}
-use Rattle.btr_scrub_copies.proofs.Syncs.{passing_filter}
 
 -- ---- ranges by their bytes
 
+-- a byte of a range of a list is one of the list
 pub at_range : (xs : List ℕ) (a b i d : ℕ) → i < b - a → get_or (slice_range xs a b) i d ≡ get_or xs (a + i) d
 at_range xs a b i d lt = get_or-take (b - a) (drop a xs) i d lt ∙ get_or-drop a xs i d
 
@@ -47,6 +37,7 @@ range_same xs ys a b le long same =
     (λ i below. let lt : i < b - a = omega (arith, below, lx) in
     at_range xs a b i 0 lt ∙ same (a + i) (omega arith) (omega (arith, lt)) ∙ sym (at_range ys a b i 0 lt))
 
+-- a slice with bytes put into it is a slice
 slice_pasted : (n : ℕ) (xs : List ℕ) (off : ℕ) (bytes : List ℕ) → off + length bytes ≤ n → IsSlice n xs → All (λ b. b < 256) bytes
     → IsSlice n (pasted xs off bytes)
 slice_pasted n xs off bytes fits is small = record {
@@ -64,11 +55,13 @@ module _ (images : Images) (layout : Layout) (given : Target → Option (List �
     pub inside : t.at.rest + size_of t ≤ 65536
     pub bytes : IfSome (given t) (IsSlice (size_of t))
 
+  -- a slice with one block put into it is a slice
   one_slice : (t : Target) (o : Option (List ℕ)) (xs : List ℕ) → t.at.rest + size_of t ≤ 65536 → IfSome o (IsSlice (size_of t)) → IsSlice 65536 xs
       → IsSlice 65536 (option_map_or (pasted xs t.at.rest) o xs)
   one_slice t None xs inside fits is = is
   one_slice t (Some b) xs inside fits is = slice_pasted 65536 xs t.at.rest b (omega (arith, inside, fits.long)) is fits.bytes
 
+  -- a slice with blocks put into it is a slice
   pub fold_slice : (ts : List Target) (xs : List ℕ) → ((t : Target) → In t ts → Fits t) → IsSlice 65536 xs
       → IsSlice 65536 (fold (with_block images layout given) xs ts)
   fold_slice [] xs fit is = is
@@ -78,8 +71,7 @@ module _ (images : Images) (layout : Layout) (given : Target → Option (List �
 
   -- blocks behind a place leave what is before it
   one_keeps : (t : Target) (o : Option (List ℕ)) (xs : List ℕ) (a b : ℕ) → b ≤ t.at.rest → t.at.rest + size_of t ≤ 65536
-      → IfSome o (IsSlice (size_of t)) → IsSlice 65536 xs
-      → slice_range (option_map_or (pasted xs t.at.rest) o xs) a b ≡ slice_range xs a b
+      → IfSome o (IsSlice (size_of t)) → IsSlice 65536 xs → slice_range (option_map_or (pasted xs t.at.rest) o xs) a b ≡ slice_range xs a b
   one_keeps t None xs a b le inside fits is = refl
   one_keeps t (Some bytes) xs a b le inside fits is =
       let within : t.at.rest + length bytes ≤ length xs = omega (arith, inside, fits.long, is.long) in
@@ -87,6 +79,7 @@ module _ (images : Images) (layout : Layout) (given : Target → Option (List �
       range_same (pasted xs t.at.rest bytes) xs a b (omega (arith, le, within, long)) (sym long)
       (λ i from to. pasted-below xs t.at.rest bytes within i 0 (omega (arith, to, le)))
 
+  -- so do all blocks that are put in behind it
   fold_keeps : (ts : List Target) (xs : List ℕ) (a b end : ℕ) → b ≤ end → AreBehind end ts → ((t : Target) → In t ts → Fits t) → IsSlice 65536 xs
       → slice_range (fold (with_block images layout given) xs ts) a b ≡ slice_range xs a b
   fold_keeps [] xs a b end le behind fit is = refl
@@ -98,8 +91,7 @@ module _ (images : Images) (layout : Layout) (given : Target → Option (List �
 
   -- a block's own place has what is given for it
   pub fold_block : (ts : List Target) (xs : List ℕ) (end : ℕ) (t : Target) (b : List ℕ) → AreBehind end ts → ((t : Target) → In t ts → Fits t)
-      → IsSlice 65536 xs → In t ts → given t ≡ Some b
-      → slice_range (fold (with_block images layout given) xs ts) t.at.rest (t.at.rest + size_of t) ≡ b
+      → IsSlice 65536 xs → In t ts → given t ≡ Some b → slice_range (fold (with_block images layout given) xs ts) t.at.rest (t.at.rest + size_of t) ≡ b
   fold_block [] xs end t b behind fit is i e = absurd i
   fold_block (u ∷ ts) xs end t b behind fit is (inl same) e =
       subst (λ v. slice_range (fold (with_block images layout given) xs (u ∷ ts)) v.at.rest (v.at.rest + size_of v) ≡ b) same (
@@ -119,12 +111,14 @@ module _ (images : Images) (layout : Layout) (given : Target → Option (List �
 
 -- ---- elements
 
+-- an image has bytes, where all images do
 bytes_in : (images : Images) (slot : ℕ) → All (λ (image : List ℕ). All (λ b. b < 256) image) images → All (λ b. b < 256) (image_of images slot)
 bytes_in images slot all = elim (cases_lt slot (length images)) [
   | inl lt ↦ all slot [] lt
   | inr le ↦ subst (All (λ b. b < 256)) (sym (get_or_past images slot [] le)) (All-nil (λ b. b < 256))
 ]
 
+-- an element that stands has 65536 bytes
 pub elements_are_slices : ElementsAreSlices
 elements_are_slices images layout row q all lengths h =
     let place = place_at row.chunk q (record { row = row.number; index = 0; rest = 0 }) in
@@ -141,6 +135,7 @@ elements_are_slices images layout row q all lengths h =
 
 -- ---- the row
 
+-- what passes a test was in the list
 pub of_filter : {X : Type 0} (p : X → Bool) (x : X) (xs : List X) → In x (filter p xs) → In x xs
 of_filter p x xs i = (passing_filter p x xs i).0
 
@@ -148,14 +143,17 @@ of_filter p x xs i = (passing_filter p x xs i).0
 pub right_checked : (images : Images) (C : Committed) (row : Row) (t : Target) → is_plain t.want ≡ false → right_for images C row t ≡ C t.want
 right_checked images C row t e = ap (λ b. cond b (new_bytes images row.failing t) (C t.want)) e
 
+-- a sector without a checksum should have the bytes that it gets
 pub right_plain : (images : Images) (C : Committed) (row : Row) (t : Target) → is_plain t.want ≡ true
     → right_for images C row t ≡ new_bytes images row.failing t
 right_plain images C row t e = ap (λ b. cond b (new_bytes images row.failing t) (C t.want)) e
 
 module _ (images : Images) (layout : Layout) (C : Committed) (row : Row) (sound : IsSoundRow images layout C row) where
+  -- what each block should have
   abbrev given : Target → Option (List ℕ)
   given = right_for images C row
 
+  -- the full stripe as it should be: its slices with what their blocks should have, and the parities of these
   abbrev pub right : Stripe
   right = record {
     slices = slices_with images layout given row;
@@ -163,19 +161,24 @@ module _ (images : Images) (layout : Layout) (C : Committed) (row : Row) (sound 
     q = parity_q 65536 (slices_with images layout given row);
   }
 
+  -- the slices are those with the blocks in them
   pub at_slice : (i : ℕ) (d : List ℕ) → i < rows.slice_count row → get_or right.slices i d ≡ slice_with images layout given row i
   at_slice i d lt = get_or-map-range_with_len (slice_with images layout given row) 0 (rows.slice_count row) i i d lt (omega arith)
 
+  -- what a block should have fits it
   fits : (i : ℕ) (t : Target) → In t (blocks_at row i) → Fits images layout given t
   fits i t among = let b = sound.blocks t (of_filter (λ u. eqb u.at.index i) t row.blocks among) in record { inside = b.lies.inside; bytes = b.bytes }
 
+  -- each slice is a part of the chunk
   pub slice_there : (i : ℕ) → i < rows.slice_count row → HasPart row.chunk.profile (length row.chunk.stripes) (part.Slice i)
   slice_there i lt = (subst IsNone (sym sound.parity) refl, lt)
 
+  -- each slice has 65536 bytes
   right_slice : (i : ℕ) → i < rows.slice_count row → IsSlice 65536 (slice_with images layout given row i)
   right_slice i lt = fold_slice images layout given (blocks_at row i) (element images layout row (part.Slice i)) (fits i)
       (sound.bytes (part.Slice i) (slice_there i lt))
 
+  -- the slices and their parities agree
   pub right_is : IsConsistent 65536 (rows.slice_count row) right
   right_is =
       let long = length-map-range_with_len (slice_with images layout given row) 0 (rows.slice_count row) in
@@ -186,6 +189,7 @@ module _ (images : Images) (layout : Layout) (C : Committed) (row : Row) (sound 
         q = refl;
       }
 
+  -- each element is that of the right stripe
   pub right_part : (q : Part) → HasPart row.chunk.profile (length row.chunk.stripes) q → element_with images layout given row q
       ≡ right_bytes (rows.slice_count row) right q
   right_part (part.Mirror i) has = absurd (no_mirror (mirror_count row.chunk.profile (length row.chunk.stripes)) i sound.parity has)
@@ -206,6 +210,5 @@ module _ (images : Images) (layout : Layout) (C : Committed) (row : Row) (sound 
   block_there t b among lt e =
       ap (λ xs. slice_range xs t.at.rest (t.at.rest + size_of t)) (at_slice t.at.index [] lt)
       ∙ fold_block images layout given (blocks_at row t.at.index) (element images layout row (part.Slice t.at.index)) 0 t b (sound.spaced t.at.index)
-      (fits t.at.index)
-      (sound.bytes (part.Slice t.at.index) (slice_there t.at.index lt))
+      (fits t.at.index) (sound.bytes (part.Slice t.at.index) (slice_there t.at.index lt))
       (in_filter (λ u. eqb u.at.index t.at.index) t row.blocks among (eq-eqb t.at.index t.at.index refl)) e

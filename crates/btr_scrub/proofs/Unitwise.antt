@@ -1,117 +1,121 @@
 -- The checked blocks that are met have a position, and are apart.
 use Rattle.std.proofs.Common.{◌≡◌, ℕ, zero, suc, ◌+◌, ◌-◌, ◌*◌, ◌/◌, ◌%◌, ◌^◌, ◌<◌, ◌≤◌, Bool, true, false, not, cond, ◌&&◌, eqb, leb, ltb, is_some, List, []}
 use Rattle.std.proofs.Common.{◌∷◌, ◌++◌, map, drop, slice_get, Option, Some, None, Result, Ok, Err, refl, sym, ap, ◌∙◌, subst, inl, inr, arith, append-nil}
-use Rattle.std.proofs.lemmas.Bool.{false≢true, and_parts, eqb-true, leb-true, or_parts, or_cases, not-false, ltb-false}
+use Rattle.btr_scrub.proofs.Common.{AreApart, Chunk, Crosses, Emit, Extent, IsTable, Layout, Map, Meeting, Met, Plain, Return, Sector, Sum, Super, TreeItem}
+use Rattle.btr_scrub.proofs.Common.{TreeRoot, Want, addr_of, and_parts, bind, blocks_of, crosses, eqb-true, exec, extent_met, facts, false≢true, filter}
+use Rattle.btr_scrub.proofs.Common.{in_chunk, in_chunks, key, kind_in, leb-true, len_of, ltb-false, or_parts, same_Some, sector, sector_met, sectors}
+use Rattle.btr_scrub.proofs.Common.{steps_of, sum_at, units_in, wants_among}
+use Rattle.std.proofs.lemmas.Bool.{or_cases, not-false}
 use Rattle.std.proofs.lemmas.List.{drop-drop}
-use Rattle.std.proofs.lemmas.Option.{same_Some}
-use Rattle.std.specs.List.{filter}
 use Rattle.btr_base.specs.Key.{key_le, key_number}
 use Rattle.btr_base.specs.declared.key.Key.{Key}
-use Rattle.btr_prog.specs.Prog.{Emit, Return, Stop, bind, exec, steps_of}
-use Rattle.btr_read.specs.Fate.{Crosses, Malformed}
-use Rattle.btr_read.specs.declared.want.Want.{Want}
+use Rattle.btr_prog.specs.Prog.{Stop}
+use Rattle.btr_read.specs.Fate.{Malformed}
 use Rattle.btr_node.specs.Block.{Item, KeyPointer}
 use Rattle.btr_node.specs.declared.node.Node.{Node}
 use Rattle.btr_node.specs.declared.node.Node.TheVariants.{Leaf, Inner}
-use Rattle.btr_walk.specs.Le.{TreeItem, below, tree_item, up_of, root_spot}
+use Rattle.btr_walk.specs.Le.{below, tree_item, up_of, root_pointer}
 use Rattle.btr_walk.specs.Range.{RangeProg, emit_all, is_within, items_within, meets, over, range, range_at, range_inner, range_leaf}
-use Rattle.btr_walk.specs.Spot.{judged}
+use Rattle.btr_walk.specs.BlockPointer.{judged}
 use Rattle.btr_walk.specs.declared.place.RootPlace.{RootPlace}
-use Rattle.btr_walk.specs.declared.spot.Spot.{Spot}
-use Rattle.btr_base.specs.declared.stored.Sum.{Sum}
-use Rattle.btr_chunk.specs.Mapping.{crosses}
-use Rattle.btr_chunk.specs.Table.{IsTable}
-use Rattle.btr_chunk.specs.declared.chunk.Chunk.{Chunk}
-use Rattle.btr_chunk.proofs.Rule.{Facts, facts}
-use Rattle.btr_files.specs.Sums.{kind_in, sum_at}
-use Rattle.btr_read.specs.Layout.{Layout}
-use Rattle.btr_read.specs.Want.{addr_of, len_of}
-use Rattle.btr_read.specs.declared.want.Want.TheVariants.{Plain, Sector, Tree}
-use Rattle.btr_super.specs.declared.superblock.Super.{Super}
-use Rattle.btr_volume.specs.declared.root.TreeRoot.{TreeRoot}
-use Rattle.btr_walk.specs.Reading.{Map}
-use Rattle.btr_scrub.specs.Gathering.{wants_among}
-use Rattle.btr_scrub.specs.Order.{AreApart, AreBetween}
-use Rattle.btr_scrub.specs.Units.{Meeting, Met, blocks_of, extent_met, extent_of, if_stated, in_chunk, in_chunks, units_in, with_extents}
-use Rattle.btr_scrub.specs.Units.{is_crossing, is_extent, is_malformed, item_met, sector, sector_met, sectors, stated_extent}
-use Rattle.btr_scrub.specs.declared.extent.Extent.{Extent}
+use Rattle.btr_walk.specs.declared.block_pointer.BlockPointer.{BlockPointer}
+use Rattle.btr_chunk.proofs.Rule.{Facts}
+use Rattle.btr_read.specs.declared.want.Want.TheVariants.{Tree}
+use Rattle.btr_scrub.specs.Order.{AreBetween}
+use Rattle.btr_scrub.specs.Units.{extent_of, if_stated, with_extents}
+use Rattle.btr_scrub.specs.Units.{is_crossing, is_extent, is_malformed, item_met, stated_extent}
 use Rattle.btr_items.specs.ExtentItem.{extent_item_of}
 use Rattle.btr_items.specs.Item.{body_fits, form_of, item_fits}
 use Rattle.btr_items.specs.Key.{key_fits}
 use Rattle.btr_items.specs.Types.{extent_item, metadata_item}
 use Rattle.btr_items.specs.declared.extent_item.ExtentItem.{ExtentItem}
 use Rattle.btr_items.specs.declared.fault.ItemFault.{ItemFault}
-use Rattle.btr_volume.specs.Tree.{key, last, tree_of}
+use Rattle.btr_volume.specs.Tree.{last, tree_of}
 use Rattle.btr_scrub.proofs.Gathering.{among-append}
 use Rattle.btr_scrub.proofs.Placed.{placed, sector_fits}
 use Rattle.btr_scrub.proofs.Ends.{Ends, Holds, Yields, each_ends, ends_as, ends_bind, ends_looks, holds_of}
 
 module _ (lo hi : Key) where
+  -- an item isn't before the first key
   abbrev pub Within : TreeItem → Type 0
   Within item = key_le lo item.key ≡ true
 
+  -- the items of a leaf are none before the first key
   yields_all : (addr : ℕ) (items : List Item) (rest : RangeProg) → Yields Within rest → Yields Within (emit_all (items_within lo hi addr items) rest)
   yields_all addr [] rest y = y
   yields_all addr (item ∷ items) rest y = by (is_within lo hi item) refl (yields_all addr items rest y)
     where
+      -- so it is with one item more, whether it is in the range or not
       by : (b : Bool) → is_within lo hi item ≡ b → Yields Within (emit_all (items_within lo hi addr items) rest)
           → Yields Within (emit_all (map (tree_item addr) (cond b (item ∷ filter (is_within lo hi) items) (filter (is_within lo hi) items))) rest)
       by true e r = ((and_parts (key_le lo item.key) (key_le item.key hi) e).0, r)
       by false e r = r
 
-  yields_leaf : (spot : Spot) (rest : RangeProg) (o : Option Node) → Yields Within rest → Yields Within (range_leaf lo hi spot rest o)
-  yields_leaf spot rest None y = tt
-  yields_leaf spot rest (Some (Leaf items)) y = yields_all spot.addr items rest y
-  yields_leaf spot rest (Some (Inner pointers)) y = tt
+  -- so it is with a leaf's
+  yields_leaf : (pointer : BlockPointer) (rest : RangeProg) (o : Option Node) → Yields Within rest → Yields Within (range_leaf lo hi pointer rest o)
+  yields_leaf pointer rest None y = tt
+  yields_leaf pointer rest (Some (Leaf items)) y = yields_all pointer.addr items rest y
+  yields_leaf pointer rest (Some (Inner pointers)) y = tt
 
-  yields_over : (child : Spot → RangeProg → RangeProg) → ((spot : Spot) (rest : RangeProg) → Yields Within rest → Yields Within (child spot rest))
-      → (pointers : List KeyPointer) (up : Option Key) (rest : RangeProg) → Yields Within rest
-      → Yields Within (over lo hi child pointers up rest)
+  -- with those below pointers
+  yields_over : (child : BlockPointer → RangeProg → RangeProg)
+      → ((pointer : BlockPointer) (rest : RangeProg) → Yields Within rest → Yields Within (child pointer rest))
+      → (pointers : List KeyPointer) (up : Option Key) (rest : RangeProg) → Yields Within rest → Yields Within (over lo hi child pointers up rest)
   yields_over child h [] up rest y = y
   yields_over child h (p ∷ ps) up rest y = by (meets lo hi p.key (up_of ps up)) (yields_over child h ps up rest y)
     where
+      -- so it is with one pointer more, whether keys of the range are below it or not
       by : (b : Bool) → Yields Within (over lo hi child ps up rest)
           → Yields Within (cond b (child (below p (up_of ps up)) (over lo hi child ps up rest)) (over lo hi child ps up rest))
       by true r = h (below p (up_of ps up)) (over lo hi child ps up rest) r
       by false r = r
 
-  yields_inner : (child : Spot → RangeProg → RangeProg) → ((spot : Spot) (rest : RangeProg) → Yields Within rest → Yields Within (child spot rest))
-      → (spot : Spot) (rest : RangeProg) (o : Option Node) → Yields Within rest → Yields Within (range_inner lo hi child spot rest o)
-  yields_inner child h spot rest None y = tt
-  yields_inner child h spot rest (Some (Leaf items)) y = tt
-  yields_inner child h spot rest (Some (Inner pointers)) y = yields_over child h pointers spot.up rest y
+  -- with those below an inner node
+  yields_inner : (child : BlockPointer → RangeProg → RangeProg)
+      → ((pointer : BlockPointer) (rest : RangeProg) → Yields Within rest → Yields Within (child pointer rest))
+      → (pointer : BlockPointer) (rest : RangeProg) (o : Option Node) → Yields Within rest → Yields Within (range_inner lo hi child pointer rest o)
+  yields_inner child h pointer rest None y = tt
+  yields_inner child h pointer rest (Some (Leaf items)) y = tt
+  yields_inner child h pointer rest (Some (Inner pointers)) y = yields_over child h pointers pointer.up rest y
 
-  yields_at : (n : ℕ) (spot : Spot) (rest : RangeProg) → Yields Within rest → Yields Within (range_at lo hi n spot rest)
-  yields_at zero spot rest y = λ block. yields_leaf spot rest (judged 0 spot block) y
-  yields_at (suc n) spot rest y = λ block. yields_inner (range_at lo hi n) (yields_at n) spot rest (judged (suc n) spot block) y
+  -- and with those below any block
+  yields_at : (n : ℕ) (pointer : BlockPointer) (rest : RangeProg) → Yields Within rest → Yields Within (range_at lo hi n pointer rest)
+  yields_at zero pointer rest y = λ block. yields_leaf pointer rest (judged 0 pointer block) y
+  yields_at (suc n) pointer rest y = λ block. yields_inner (range_at lo hi n) (yields_at n) pointer rest (judged (suc n) pointer block) y
 
   -- a range has no item before its first key
   pub yields_range : (root : RootPlace) → Yields Within (range lo hi root)
-  yields_range root = yields_at root.level (root_spot root) (Return tt) tt
+  yields_range root = yields_at root.level (root_pointer root) (Return tt) tt
 
 -- ---- blocks one behind another
 
 module _ (layout : Layout) where
+  -- blocks behind an address are behind an earlier one
   pub between_from : (a b c : ℕ) (ws : List Want) → a ≤ b → AreBetween layout b c ws → AreBetween layout a c ws
   between_from a b c [] le h = omega (arith, le, h)
   between_from a b c (w ∷ ws) le h = (omega (arith, le, h.0), h.1, h.2)
 
+  -- blocks behind others are between the ends of both
   pub between_more : (a b c : ℕ) (xs ys : List Want) → AreBetween layout a b xs → AreBetween layout b c ys → AreBetween layout a c (xs ++ ys)
   between_more a b c [] ys h g = between_from a b c ys h g
   between_more a b c (x ∷ xs) ys h g = (h.0, h.1, between_more (addr_of x + len_of layout.setting x) b c xs ys h.2 g)
 
+  -- blocks before an address are before a later one
   pub between_to : (a b c : ℕ) (xs : List Want) → AreBetween layout a b xs → b ≤ c → AreBetween layout a c xs
   between_to a b c [] h le = omega (arith, h, le)
   between_to a b c (x ∷ xs) h le = (h.0, h.1, between_to (addr_of x + len_of layout.setting x) b c xs h.2 le)
 
+  -- blocks that are apart behind an address are so behind an earlier one
   pub apart_from : (a b : ℕ) (ws : List Want) → a ≤ b → AreApart layout b ws → AreApart layout a ws
   apart_from a b [] le h = tt
   apart_from a b (w ∷ ws) le h = (omega (arith, le, h.0), h.1, h.2)
 
+  -- blocks behind others are apart with them
   pub apart_more : (a b : ℕ) (xs ys : List Want) → AreBetween layout a b xs → AreApart layout b ys → AreApart layout a (xs ++ ys)
   apart_more a b [] ys h g = apart_from a b ys h g
   apart_more a b (x ∷ xs) ys h g = (h.0, h.1, apart_more (addr_of x + len_of layout.setting x) b xs ys h.2 g)
 
+  -- blocks one behind another are apart
   pub between_apart : (a b : ℕ) (xs : List Want) → AreBetween layout a b xs → AreApart layout a xs
   between_apart a b [] h = tt
   between_apart a b (x ∷ xs) h = (h.0, h.1, between_apart (addr_of x + len_of layout.setting x) b xs h.2)
@@ -124,6 +128,7 @@ left_true false b e f = absurd (false≢true e)
 
 module _ (s : Super) (layout : Layout) (table : IsTable layout.chunks) (node : s.nodesize ≡ layout.setting.nodesize) (some : 0 < s.nodesize) (B : Map)
     (sums : Option TreeRoot) (number : ℕ) (chunk : Chunk) (there : slice_get layout.chunks number ≡ Some chunk) where
+  -- what a chunk of the table keeps
   f : Facts chunk
   f = facts chunk (table.sound number chunk there).0
 
@@ -131,29 +136,30 @@ module _ (s : Super) (layout : Layout) (table : IsTable layout.chunks) (node : s
   abbrev Apart : ℕ → List Met → Type 0
   Apart from ys = AreApart layout from (wants_among ys)
 
+  -- blocks that are met lie one behind another between two addresses
   abbrev Between : ℕ → ℕ → List Met → Type 0
   Between from to ys = AreBetween layout from to (wants_among ys)
 
+  -- one sector lies between its ends
   one_sector : (addr : ℕ) → addr % 4096 ≡ 0 → chunk.start ≤ addr → addr + 4096 ≤ chunk.start + chunk.length
       → Ends B (sector s sums addr) (λ ys u. Between addr (addr + 4096) ys) (Apart addr)
   one_sector addr aligned from to =
-      ends_looks B (sum_at (kind_in s) sums addr) (λ sum. Emit (sector_met addr sum) (Return tt))
-      (λ ys u. Between addr (addr + 4096) ys) (Apart addr) tt by
+      ends_looks B (sum_at (kind_in s) sums addr) (λ sum. Emit (sector_met addr sum) (Return tt)) (λ ys u. Between addr (addr + 4096) ys) (Apart addr) tt by
     where
+      -- so it is with a checksum and without one
       by : (sum : Option Sum) → Between addr (addr + 4096) (sector_met addr sum ∷ [])
       by None = (
         omega arith,
-        placed layout table number chunk there (Plain addr) from (omega (arith, to))
-            (sector_fits layout table number chunk there addr aligned from to),
+        placed layout table number chunk there (Plain addr) from (omega (arith, to)) (sector_fits layout table number chunk there addr aligned from to),
         omega arith,
       )
       by (Some sum) = (
         omega arith,
-        placed layout table number chunk there (Sector addr sum) from (omega (arith, to))
-            (sector_fits layout table number chunk there addr aligned from to),
+        placed layout table number chunk there (Sector addr sum) from (omega (arith, to)) (sector_fits layout table number chunk there addr aligned from to),
         omega arith,
       )
 
+  -- sectors one behind another lie between their ends
   pub all_sectors : (n addr : ℕ) → addr % 4096 ≡ 0 → chunk.start ≤ addr → addr + n * 4096 ≤ chunk.start + chunk.length
       → Ends B (sectors s sums n addr) (λ ys u. Between addr (addr + n * 4096) ys) (Apart addr)
   all_sectors zero addr aligned from to = omega arith
@@ -176,6 +182,7 @@ module _ (s : Super) (layout : Layout) (table : IsTable layout.chunks) (node : s
     node_long : is_some extent.level ≡ true → extent.len ≡ s.nodesize
     uncrossed : is_some extent.level ≡ true → crosses chunk extent.addr extent.len ≡ false
 
+  -- the blocks of an extent lie between its ends
   all_blocks : (extent : Extent) → IsSound extent → (level : Option ℕ) → extent.level ≡ level
       → Ends B (blocks_of s sums extent level) (λ ys u. Between extent.addr (extent.addr + extent.len) ys) (Apart extent.addr)
   all_blocks extent is (Some level) e =
@@ -200,27 +207,34 @@ module _ (s : Super) (layout : Layout) (table : IsTable layout.chunks) (node : s
     pub low : to ≤ chunk.start + (end - chunk.start)
     pub high : to ≤ chunk.start + chunk.length
 
+  -- behind the blocks so far these come, up to where an extent ends
   abbrev Grows : ℕ → List Met → ℕ → Type 0
   Grows end ys end' = (xs : List Met) → SoFar xs end → SoFar (xs ++ ys) end'
 
+  -- behind the blocks so far these are apart with them
   abbrev Far : ℕ → List Met → Type 0
   Far end ys = (xs : List Met) → SoFar xs end → Apart chunk.start (xs ++ ys)
 
+  -- the blocks so far are apart
   so_apart : (xs : List Met) (end : ℕ) → SoFar xs end → Apart chunk.start xs
   so_apart xs end so = between_apart layout chunk.start so.to (wants_among xs) so.between
 
+  -- with no more blocks they are apart still
   none_more : (end : ℕ) → Far end []
   none_more end xs so = subst (Apart chunk.start) (sym (append-nil xs)) (so_apart xs end so)
 
   -- an extent that keeps the rules, behind the one before
   module _ (end : ℕ) (extent : Extent) (is : IsSound extent) (le : end ≤ extent.addr) where
+    -- what is met of the extent
     abbrev blocks : Meeting (Unit {0})
     blocks = blocks_of s sums extent extent.level
 
+    -- blocks that are apart from the extent on are apart with those before
     far : (ys : List Met) → Apart extent.addr ys → Far end ys
     far ys h xs so = subst (AreApart layout chunk.start) (sym (among-append xs ys)) (apart_more layout chunk.start so.to (wants_among xs) (wants_among ys)
         so.between (apart_from layout so.to extent.addr (wants_among ys) (omega (arith, so.low, is.from, le)) h))
 
+    -- blocks between the ends of the extent come behind those before
     grows : (ys : List Met) → Between extent.addr (extent.addr + extent.len) ys → Grows end ys (extent.addr + extent.len)
     grows ys q xs so = record {
       to = extent.addr + extent.len;
@@ -231,6 +245,7 @@ module _ (s : Super) (layout : Layout) (table : IsTable layout.chunks) (node : s
       high = is.to;
     }
 
+    -- all that is met of the extent comes behind those before, or is apart with them at a fault
     done : Ends B (bind blocks (λ _. Return (extent.addr + extent.len))) (Grows end) (Far end)
     done =
         ends_bind B blocks (λ _. Return (extent.addr + extent.len)) (λ ys u. Between extent.addr (extent.addr + extent.len) ys) (Grows end) (Far end)
@@ -238,20 +253,22 @@ module _ (s : Super) (layout : Layout) (table : IsTable layout.chunks) (node : s
         (Apart extent.addr) (Far end) (λ ys u q. q) far (all_blocks extent is extent.level refl))
         (λ u ys q xs so. subst (λ zs. SoFar (xs ++ zs) (extent.addr + extent.len)) (sym (append-nil ys)) (grows ys q xs so))
 
+  -- an extent that is met begins behind those before, and ends in the chunk
   met_extent : (end leaf : ℕ) (extent : Extent) → (is_malformed s end extent ≡ false → is_crossing chunk extent ≡ false → IsSound extent
       × (end ≤ extent.addr)) → Ends B (extent_met s sums chunk end leaf (Some extent)) (Grows end) (Far end)
   met_extent end leaf extent h = by (is_malformed s end extent) refl
     where
+      -- an extent that isn't malformed is met, or it crosses and ends all
       or : (c : Bool) → is_malformed s end extent ≡ false → is_crossing chunk extent ≡ c
           → Ends B (cond c (Stop (Crosses extent.addr)) (bind (blocks_of s sums extent extent.level) (λ _. Return (extent.addr + extent.len))))
           (Grows end) (Far end)
       or true m e = none_more end
       or false m e = let k = h m e in done end extent k.0 k.1
 
+      -- a malformed extent ends all
       by : (b : Bool) → is_malformed s end extent ≡ b
           → Ends B (cond b (Stop (Malformed leaf)) (cond (is_crossing chunk extent) (Stop (Crosses extent.addr))
-          (bind (blocks_of s sums extent extent.level) (λ _. Return (extent.addr + extent.len)))))
-          (Grows end) (Far end)
+          (bind (blocks_of s sums extent extent.level) (λ _. Return (extent.addr + extent.len))))) (Grows end) (Far end)
       by true e = none_more end
       by false e = or (is_crossing chunk extent) e refl
 
@@ -261,6 +278,7 @@ module _ (s : Super) (layout : Layout) (table : IsTable layout.chunks) (node : s
   key_of : (kind : ℕ) (key : Key) → key.kind ≡ kind → key ≡ record { objectid = key.objectid; kind = kind; offset = key.offset }
   key_of kind key e = ap (λ k. record { objectid = key.objectid; kind = k; offset = key.offset }) e
 
+  -- an item that isn't before a chunk's first key has an objectid that isn't before the chunk
   in_order : (objectid kind offset : ℕ) → key_le (key chunk.start 0 0) (record { objectid = objectid; kind = kind; offset = offset }) ≡ true → kind < 256
       → offset < 2 ^ 64 → chunk.start ≤ objectid
   in_order objectid kind offset e small few = let le = leb-true (key_number (key chunk.start 0 0))
@@ -268,21 +286,24 @@ module _ (s : Super) (layout : Layout) (table : IsTable layout.chunks) (node : s
 
   -- whatever an extent's item states
   extent_is : (item : TreeItem) (extent : Extent) (end : ℕ) → key_le (key chunk.start 0 0) item.key ≡ true → is_extent item.key ≡ true
-      → extent_of s item ≡ Some extent → is_malformed s end extent ≡ false → is_crossing chunk extent ≡ false
-      → IsSound extent × (end ≤ extent.addr)
+      → extent_of s item ≡ Some extent → is_malformed s end extent ≡ false → is_crossing chunk extent ≡ false → IsSound extent × (end ≤ extent.addr)
   extent_is item extent end lo is e fine uncrossed = by_fits (item_fits (kind_in s) item.key item.body) refl e
     where
+      -- it doesn't begin before the end of the last extent, and as a tree block it has a node's size
       parts : (ltb extent.addr end ≡ false) × ((is_some extent.level && not (eqb extent.len s.nodesize)) ≡ false)
       parts = or_parts (ltb extent.addr end) (is_some extent.level && not (eqb extent.len s.nodesize)) fine
 
+      -- it doesn't end behind the chunk, and as a tree block it crosses no end of an element
       crossings : (ltb (chunk.start + chunk.length) (extent.addr + extent.len) ≡ false)
           × ((is_some extent.level && crosses chunk extent.addr extent.len) ≡ false)
       crossings = or_parts (ltb (chunk.start + chunk.length) (extent.addr + extent.len))
           (is_some extent.level && crosses chunk extent.addr extent.len) uncrossed
 
+      -- it ends in the chunk
       ends : extent.addr + extent.len ≤ chunk.start + chunk.length
       ends = ltb-false (chunk.start + chunk.length) (extent.addr + extent.len) crossings.0
 
+      -- where its address is aligned and not before the chunk, it keeps the rules
       sound_at : extent.addr % 4096 ≡ 0 → chunk.start ≤ extent.addr → IsSound extent × (end ≤ extent.addr)
       sound_at aligned from = (
         record {
@@ -296,6 +317,7 @@ module _ (s : Super) (layout : Layout) (table : IsTable layout.chunks) (node : s
         ltb-false extent.addr end parts.0,
       )
 
+      -- an extent that an item states keeps the rules, where the item's key does
       by_read : (r : Result ExtentItem ItemFault) → if_stated s.nodesize item.key r ≡ Some extent → key_fits item.key ≡ true → IsSound extent
           × (end ≤ extent.addr)
       by_read (Err x) e fit = cc
@@ -328,23 +350,28 @@ module _ (s : Super) (layout : Layout) (table : IsTable layout.chunks) (node : s
                 sound_at (ap (λ n. n % 4096) (sym addr) ∙ aligned) (omega (arith, from, addr))
           ]
 
+      -- so it is where the item fits its form
       by_fits : (b : Bool) → item_fits (kind_in s) item.key item.body ≡ b
           → cond b (if_stated s.nodesize item.key (extent_item_of item.key.kind item.body)) None ≡ Some extent → IsSound extent × (end ≤ extent.addr)
       by_fits false q e = cc
       by_fits true q e = by_read (extent_item_of item.key.kind item.body) e
           (and_parts (key_fits item.key) (body_fits (form_of item.key.kind) (kind_in s) item.key item.body) q).0
 
+  -- so it is with an item
   one_item : (end : ℕ) (item : TreeItem) → key_le (key chunk.start 0 0) item.key ≡ true → Ends B (item_met s sums chunk end item) (Grows end) (Far end)
   one_item end item lo = by (is_extent item.key) refl
     where
+      -- an extent item's blocks come behind those before, or it ends all
       met : is_extent item.key ≡ true → (o : Option Extent) → extent_of s item ≡ o → Ends B (extent_met s sums chunk end item.leaf o) (Grows end) (Far end)
       met is None e = none_more end
       met is (Some extent) e = met_extent end item.leaf extent (λ fine uncrossed. extent_is item extent end lo is e fine uncrossed)
 
+      -- so it is with any item: one that is no extent adds nothing
       by : (b : Bool) → is_extent item.key ≡ b → Ends B (cond b (extent_met s sums chunk end item.leaf (extent_of s item)) (Return end)) (Grows end) (Far end)
       by true is = met is (extent_of s item) refl
       by false is = λ xs so. subst (λ zs. SoFar zs end) (sym (append-nil xs)) so
 
+  -- no block was met before the first item
   first : SoFar [] 0
   first = record { to = chunk.start; between = omega arith; low = omega arith; high = omega arith }
 
@@ -371,20 +398,24 @@ module _ (s : Super) (layout : Layout) (table : IsTable layout.chunks) (node : s
 
 -- ---- all chunks
 
+-- what is left of a list begins at a number
 head_at : (xs : List Chunk) (i : ℕ) (x : Chunk) (ys : List Chunk) → drop i xs ≡ x ∷ ys → slice_get xs i ≡ Some x
 head_at [] zero x ys e = cc
 head_at [] (suc i) x ys e = cc
 head_at (y ∷ xs) zero x ys e = cc
 head_at (y ∷ xs) (suc i) x ys e = head_at xs i x ys e
 
+-- and goes on behind it
 tail_at : (xs : List Chunk) (i : ℕ) (x : Chunk) (ys : List Chunk) → drop i xs ≡ x ∷ ys → drop (i + 1) xs ≡ ys
 tail_at xs i x ys e = sym (drop-drop 1 i xs) ∙ ap (drop 1) e
 
 -- the chunks from one on, in the order of the table
 module _ (s : Super) (layout : Layout) (table : IsTable layout.chunks) (node : s.nodesize ≡ layout.setting.nodesize) (some : 0 < s.nodesize) (B : Map) where
+  -- blocks that are met have a position and are apart, from an address on
   abbrev ApartFrom : ℕ → List Met → Type 0
   ApartFrom from ys = AreApart layout from (wants_among ys)
 
+  -- the blocks of chunks one behind another are apart
   chunks_end : (sums : Option TreeRoot) (extents : TreeRoot) (chunks : List Chunk) (i from : ℕ) → drop i layout.chunks ≡ chunks
       → ((j : ℕ) (c : Chunk) → i ≤ j → slice_get layout.chunks j ≡ Some c → from ≤ c.start)
       → Ends B (in_chunks s sums extents chunks) (λ ys u. ApartFrom from ys) (ApartFrom from)
@@ -406,6 +437,7 @@ module _ (s : Super) (layout : Layout) (table : IsTable layout.chunks) (node : s
       (chunks_end sums extents chunks (i + 1) end (tail_at layout.chunks i chunk chunks e)
       (λ j c le at. (table.apart i j chunk c (omega (arith, le)) there at).0)))
 
+  -- so are those of all chunks, where there is an extent tree
   with_extents_end : (o : Option TreeRoot) → Ends B (with_extents s layout.chunks o) (λ ys u. ApartFrom 0 ys) (ApartFrom 0)
   with_extents_end None = tt
   with_extents_end (Some extents) =

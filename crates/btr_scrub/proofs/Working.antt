@@ -2,53 +2,39 @@
 use Rattle.std.proofs.Common.{◌≡◌, ◌⊎◌, get_or, ℕ, zero, suc, ◌+◌, ◌<◌, ◌≤◌, Bool, true, false, cond, ◌&&◌, eqb, ◌/◌, List, [], ◌∷◌, ◌++◌, length, take, drop}
 use Rattle.std.proofs.Common.{slice_get, Option, Some, None, is_none, IfSome, IsSomeAnd, OnOk, Result, Ok, Err, IsErrAnd, refl, sym, ap, ◌∙◌, subst, inl, inr}
 use Rattle.std.proofs.Common.{arith, append-nil, append_assoc, add-one}
-use Rattle.std.proofs.lemmas.Bool.{false≢true, cases_lt, cases_order, eqb-true, false_from_ne_true}
+use Rattle.btr_scrub.proofs.Common.{AreApart, Blocks, CanMend, Chunk, Failing, Image, Images, IsOfScrub, IsPastChunk, IsTable, Layout, LiesInChunk}
+use Rattle.btr_scrub.proofs.Common.{LiesInStripe, Memory, MendFault, Scrubs, Seen, Tally, Target, Want, Works, Write, addr_of, all_count_for, all_writes_for}
+use Rattle.btr_scrub.proofs.Common.{alone, cases_lt, chunk_count_for, chunk_writes_for, eqb-true, false_from_ne_true, false≢true, filter}
+use Rattle.btr_scrub.proofs.Common.{get_or_from_slice_get, in_either, in_right, is_in_chunk, is_in_row, mirrors, plain, range_with_len, row_of, rows_count}
+use Rattle.btr_scrub.proofs.Common.{rows_in, rows_writes, same_Some, sites_count, sites_in, sites_writes, slice_get_within, sought, sought_of, stripe_length}
+use Rattle.btr_scrub.proofs.Common.{targets, waiting, writes_if}
+use Rattle.std.proofs.lemmas.Bool.{cases_order}
 use Rattle.std.proofs.lemmas.List.{take-append-drop}
-use Rattle.std.proofs.lemmas.List.Elements.{filter-append}
-use Rattle.std.proofs.lemmas.Option.{slice_get_within, get_or_from_slice_get, same_Some}
-use Rattle.std.specs.List.{filter, range_with_len}
-use Rattle.btr_chunk.specs.Chunk.{mirrors, stripe_length}
-use Rattle.btr_chunk.specs.Table.{IsTable}
-use Rattle.btr_chunk.specs.declared.chunk.Chunk.{Chunk}
 use Rattle.btr_chunk.proofs.Bytes.{at-below}
-use Rattle.btr_rack.specs.Rack.{Seen, in_slot}
-use Rattle.btr_read.specs.Candidates.{Target}
-use Rattle.btr_read.specs.Fate.{sought}
-use Rattle.btr_read.specs.Layout.{Layout}
-use Rattle.btr_read.specs.Want.{addr_of}
-use Rattle.btr_read.specs.declared.want.Want.{Want}
-use Rattle.btr_read.proofs.Fates.{sought_of}
-use Rattle.btr_read.proofs.Ones.{in_either, in_right}
+use Rattle.btr_rack.specs.Rack.{in_slot}
 use Rattle.btr_read.proofs.Serving.{serves_as}
-use Rattle.btr_read.specs.Store.{Blocks}
-use Rattle.btr_scrub_copies.specs.Syncing.{AreMarked, OnlySyncs, Strands, SyncsMarked, WaitsBehindAll, plain}
-use Rattle.btr_scrub_copies.specs.Turns.{WaitsAt, waiting}
-use Rattle.btr_scrub_copies.specs.Writes.{AreAmong, Images, Write, writes_if}
-use Rattle.btr_scrub_copies.specs.declared.mended.MendFault.{MendFault}
-use Rattle.btr_scrub_copies.specs.declared.mended.MendFault.TheVariants.{Image, Memory}
+use Rattle.btr_scrub_copies.specs.Syncing.{AreMarked, OnlySyncs, Strands, SyncsMarked, WaitsBehindAll}
+use Rattle.btr_scrub_copies.specs.Turns.{WaitsAt}
+use Rattle.btr_scrub_copies.specs.Writes.{AreAmong}
 use Rattle.btr_scrub_copies.proofs.Doing.{does_reads}
 use Rattle.btr_scrub_copies.proofs.Syncs.{sync_held, sync_slots}
 use Rattle.btr_scrub_copies.proofs.Turning.{among_synced, does_sync, marked_below}
 use Rattle.btr_scrub.specs.BlocksInRows.{In}
-use Rattle.btr_scrub.specs.WrittenRanges.{LiesInChunk, LiesInStripe, WaitsInOne, alone}
-use Rattle.btr_scrub.specs.Order.{AreApart, targets}
-use Rattle.btr_scrub.specs.Repair.{is_in_chunk, is_in_row, row_of, rows_in}
-use Rattle.btr_scrub.specs.Scrubbing.{CanMend, IsOfScrub, IsPastChunk, Scrubs, Works, all_count_for, all_writes_for, sites_count, sites_in, sites_writes}
-use Rattle.btr_scrub.specs.Scrubbing.{chunk_count_for, chunk_writes_for, rows_count, rows_writes}
-use Rattle.btr_scrub.specs.declared.tally.Tally.{Tally}
-use Rattle.btr_scrub.proofs.Blockwise.{filter_none, ok_of, targets_both, with_one_start}
+use Rattle.btr_scrub.specs.WrittenRanges.{WaitsInOne}
+use Rattle.btr_scrub.proofs.Blockwise.{ok_of, targets_both, with_one_start}
 use Rattle.btr_scrub.proofs.Firsts.{drop_one}
 use Rattle.btr_scrub.proofs.Positions.{alone_lies, is_sought, bounds_of}
 use Rattle.btr_scrub.proofs.RowAgreeing.{map_same}
 use Rattle.btr_scrub.proofs.Scrubbing.{IsUnmoved, does_next, does_weaker, recast, tell, waits_weaker, done_as, done_cut, done_then, can_mend_then}
 use Rattle.btr_scrub.proofs.Stripes.{any_of}
-use Rattle.btr_scrub_copies.specs.Fresh.{Failing}
 use Rattle.btr_scrub.proofs.Lists.{any_at, passed}
 use Rattle.btr_scrub.proofs.Itemwise.{AreSteps, one_cut, one_more}
 use Rattle.std.proofs.Math.Seq.{take-suc}
+use Rattle.btr_scrub.proofs.Grouping.{filter_later}
 
 -- ---- one chunk
 
+-- a list without a member is empty
 nothing : {X : Type 0} (xs : List X) → ((x : X) → In x xs → ⊥) → xs ≡ []
 nothing [] h = refl
 nothing (x ∷ xs) h = absurd (h x (inl refl))
@@ -66,6 +52,7 @@ in_alone whole chunk a b h = inr (any_at (λ c. WaitsAt (LiesInChunk whole c) a 
     (waits_weaker (LiesInStripe (alone whole chunk)) (LiesInChunk whole chunk) a b (alone_lies whole chunk) h))
 
 module _ (whole : Layout) (chunk : Chunk) (write : Bool) where
+  -- the layout with this chunk alone
   abbrev layout : Layout
   layout = alone whole chunk
 
@@ -78,8 +65,7 @@ module _ (whole : Layout) (chunk : Chunk) (write : Bool) where
 
   -- a chunk was mended, and its images synced
   pub works_synced : (f : Images → List Write) (c : Images → Tally → Tally) (m m' n : List Bool) (a b z : Seen) (t u : Tally) (x : Unit {0})
-      (r : Result (Unit {0}) MendFault) → write ≡ true
-      → Scrubs layout write f c m m' a b t u (Ok x) → SyncsMarked m' n b z r → Works layout write f c a z t u r
+      (r : Result (Unit {0}) MendFault) → write ≡ true → Scrubs layout write f c m m' a b t u (Ok x) → SyncsMarked m' n b z r → Works layout write f c a z t u r
   works_synced f c m m' n a b z t u x r writing h s = record {
     does = recast (does_next (Unit {0}) (Unit {0}) (IsOfScrub layout) (λ i. writes_if write (f i)) (λ i. []) [] [] [] (plain a) (plain b) (plain z) x r
         (λ images e. refl) h.does (does_sync (LiesInStripe layout) m' n b z r s)) (λ images e. append-nil (writes_if write (f images)));
@@ -90,17 +76,21 @@ module _ (whole : Layout) (chunk : Chunk) (write : Bool) where
     unwritten = λ w. absurd (false≢true (sym w ∙ writing));
   }
     where
+      -- where no sync failed, the counts are those of the mending
       counted : (r : Result (Unit {0}) MendFault) → OnOk r (IfSome a.held (λ images. u ≡ c images t))
       counted (Ok y) = h.counts
       counted (Err e) = tt
 
+      -- where nothing waited before and no sync failed, nothing waits
       waits : (r : Result (Unit {0}) MendFault) → SyncsMarked m' n b z r → OnOk r (a.unsynced ≡ [] → z.unsynced ≡ [])
       waits (Ok y) k = λ none. none_waits m' n b z y k (h.marked (λ range i. absurd (subst (In range) none i)))
       waits (Err e) k = tt
 
+      -- the mending let nothing wait for good
       before : b.never_synced ≡ a.never_synced
       before = h.stranded
 
+      -- only what waited in an image whose sync failed waits for good
       strands : (r : Result (Unit {0}) MendFault) → WaitsBehindAll m' b z r → Strands a.never_synced z.never_synced r
       strands (Ok y) k = k.1 ∙ before
       strands (Err (Image slot)) k = (b.unsynced, k.1 ∙ ap (λ never. never ++ in_slot slot b.unsynced) before)
@@ -163,15 +153,18 @@ module _ (layout : Layout) (write : Bool) where
     unwritten = h.unwritten;
   }
     where
+      -- what waits in stripes of this chunk alone waits in stripes of one chunk of the table
       wider : WaitsInOne (alone layout chunk) a b → WaitsInOne layout a b
       wider (inl w) = inl w
       wider (inr w) = inr (any_at (λ c. WaitsAt (LiesInChunk layout c) a b) layout.chunks k chunk (slice_get_within layout.chunks k chunk there) there
           (at w.0 w.1 w.2 w.3 w.4))
         where
+          -- the one chunk is this one
           at : (i : ℕ) (c : Chunk) → i < 1 → get_or (chunk ∷ []) i c ≡ c → WaitsAt (LiesInChunk layout c) a b → WaitsAt (LiesInChunk layout chunk) a b
           at zero c lt same h = subst (λ d. WaitsAt (LiesInChunk layout d) a b) (sym same) h
           at (suc i) c lt same h = absurd (omega (arith, lt))
 
+  -- said otherwise
   pub works_as : (f g : Images → List Write) (c d : Images → Tally → Tally) (a b : Seen) (t u : Tally) (r : Result (Unit {0}) MendFault)
       → ((images : Images) → a.held ≡ Some images → (f images ≡ g images) × (c images t ≡ d images t)) → Works layout write f c a b t u r
       → Works layout write g d a b t u r
@@ -179,6 +172,7 @@ module _ (layout : Layout) (write : Bool) where
       let k = done_as layout write f g c d a b t u r same (record { does = h.does; counts = h.counts; unwritten = h.unwritten }) in
       record { does = k.does; counts = k.counts; synced = h.synced; waits = h.waits; stranded = h.stranded; unwritten = k.unwritten }
 
+  -- one work behind another
   pub works_then : (f g : Images → List Write) (c d : Images → Tally → Tally) (a b z : Seen) (t u v : Tally) (x : Unit {0}) (r : Result (Unit {0}) MendFault)
       → IsUnmoved layout write f g d a.held → Works layout write f c a b t u (Ok x) → Works layout write g d b z u v r
       → Works layout write (λ i. f i ++ g i) (λ i y. d i (c i y)) a z t v r
@@ -194,22 +188,26 @@ module _ (layout : Layout) (write : Bool) where
         unwritten = both.unwritten;
       }
     where
+      -- where nothing waits, nothing new does
       no_more : b.unsynced ≡ [] → AreAmong (waiting b) (waiting a)
       no_more none range i = elim (in_either range b.unsynced b.never_synced i) as (λ _. In range (waiting a)) [
         | inl j ↦ absurd (subst (In range) none j)
         | inr j ↦ in_right range a.unsynced a.never_synced (subst (In range) h.stranded j)
       ]
 
+      -- where nothing waited before the first, nothing waits behind the second
       waits : (r : Result (Unit {0}) MendFault) → OnOk r (b.unsynced ≡ [] → z.unsynced ≡ []) → OnOk r (a.unsynced ≡ [] → z.unsynced ≡ [])
       waits (Ok y) l = λ none. l (h.synced none)
       waits (Err y) l = tt
 
+  -- one that came to a halt, before others
   pub works_cut : (f g : Images → List Write) (c d : Images → Tally → Tally) (a b : Seen) (t u : Tally) (e : MendFault)
       → Works {A = Unit {0}} layout write f c a b t u (Err e) → Works {A = Unit {0}} layout write (λ i. f i ++ g i) d a b t u (Err e)
   works_cut f g c d a b t u x h =
       let k = done_cut layout write (Unit {0}) (Unit {0}) f g c d a b t u x (record { does = h.does; counts = h.counts; unwritten = h.unwritten }) in
       record { does = k.does; counts = tt; synced = tt; waits = h.waits; stranded = h.stranded; unwritten = h.unwritten }
 
+  -- nothing was done
   pub works_none : (a : Seen) (t : Tally) → Works {A = Unit {0}} layout write (λ i. []) (λ i y. y) a a t t (Ok tt)
   works_none a t = record {
     does = recast (does_reads (IsOfScrub layout) [] (plain a) (plain a) tt (record { same = refl; later = omega arith; same_shut = refl })
@@ -235,10 +233,12 @@ works_steps layout write = record {
 
 -- ---- the chunks of a table
 
+-- the first members with one more
 take_one : {X : Type 0} (xs : List X) (i : ℕ) (x : X) → slice_get xs i ≡ Some x → take (i + 1) xs ≡ take i xs ++ x ∷ []
 take_one xs i x e = ap (λ n. take n xs) (add-one i) ∙ take-suc xs i x (slice_get_within xs i x e)
     ∙ ap (λ y. take i xs ++ y ∷ []) (get_or_from_slice_get xs i x x e)
 
+-- a list is its first members, one, and those behind it
 split_at : {X : Type 0} (xs : List X) (i : ℕ) (x : X) → slice_get xs i ≡ Some x → xs ≡ take i xs ++ x ∷ drop (i + 1) xs
 split_at xs i x e = sym (take-append-drop i xs) ∙ ap (λ ys. take i xs ++ ys) (drop_one xs i x e)
 
@@ -261,16 +261,13 @@ module _ (kept : Failing) (layout : Layout) (table : IsTable layout.chunks) (wan
       → (chunk_writes_for kept layout chunk left images ≡ chunk_writes_for kept layout chunk wants images)
       × ((x : Tally) → chunk_count_for kept layout write chunk left images x ≡ chunk_count_for kept layout write chunk wants images x)
   left_for write chunk past left split outside images =
-      let both : targets layout wants ≡ targets layout past ++ targets layout left =
-      ap (targets layout) split ∙ targets_both layout past left in
+      let both : targets layout wants ≡ targets layout past ++ targets layout left = ap (targets layout) split ∙ targets_both layout past left in
       let blocks : sites_in layout chunk wants ≡ sites_in layout chunk left =
-      ap (filter (is_in_chunk chunk)) both ∙ filter-append (is_in_chunk chunk) (targets layout past) (targets layout left)
-      ∙ ap (λ xs. xs ++ sites_in layout chunk left) (filter_none (is_in_chunk chunk) (targets layout past) outside) in
+      ap (filter (is_in_chunk chunk)) both ∙ filter_later (is_in_chunk chunk) (targets layout past) (targets layout left) outside in
       let in_rows : (r : ℕ) → row_of kept (targets layout wants) chunk r ≡ row_of kept (targets layout left) chunk r =
       λ r. ap (λ bs. record { chunk = chunk; number = r; blocks = bs; failing = kept }) (
-      ap (filter (is_in_row chunk r)) both ∙ filter-append (is_in_row chunk r) (targets layout past) (targets layout left)
-      ∙ ap (λ xs. xs ++ filter (is_in_row chunk r) (targets layout left))
-      (filter_none (is_in_row chunk r) (targets layout past) (λ t i. ap (λ b. b && eqb t.at.row r) (outside t i)))) in
+      ap (filter (is_in_row chunk r)) both
+      ∙ filter_later (is_in_row chunk r) (targets layout past) (targets layout left) (λ t i. ap (λ b. b && eqb t.at.row r) (outside t i))) in
       let rs : rows_in kept (targets layout wants) chunk ≡ rows_in kept (targets layout left) chunk =
       ap (λ xs. cond (is_none (mirrors chunk)) xs []) (map_same (row_of kept (targets layout wants) chunk) (row_of kept (targets layout left) chunk)
       (range_with_len 0 (stripe_length chunk / 65536)) (λ r _. in_rows r)) in (
@@ -283,6 +280,7 @@ module _ (kept : Failing) (layout : Layout) (table : IsTable layout.chunks) (wan
             (sites_count kept write x images y)) blocks),
       )
 
+  -- no chunk is past yet
   pub chunks_none : (write : Bool) (a : Seen) (tally : Tally) → AreApart layout 0 wants → ChunksPast kept layout wants write wants 0 a a tally tally
   chunks_none write a tally apart = record {
     past = [];
@@ -322,6 +320,7 @@ module _ (kept : Failing) (layout : Layout) (table : IsTable layout.chunks) (wan
       abbrev ForChunk : List Want → Result (Unit {0}) MendFault → Type 0
       ForChunk ws r = Works layout write (chunk_writes_for kept layout chunk ws) (chunk_count_for kept layout write chunk ws) b z tally' tally'' r
 
+      -- what was done for the blocks that are left was done for all
       for_all : (r : Result (Unit {0}) MendFault) → ForChunk left r → ForChunk wants r
       for_all r =
           let same = left_for write chunk h.past left h.split (λ t i. h.outside t number chunk i (omega arith) there) in
@@ -335,11 +334,10 @@ module _ (kept : Failing) (layout : Layout) (table : IsTable layout.chunks) (wan
       chunks_more p one = record {
         past = h.past ++ p.past;
         split = h.split ∙ ap (λ ws. h.past ++ ws) p.split ∙ sym (append_assoc h.past p.past left');
-        outside = λ t k c i le e. elim (in_either t (targets layout h.past) (targets layout p.past)
-            (subst (In t) (targets_both layout h.past p.past) i)) [
-              | inl j ↦ h.outside t k c j (omega (arith, le)) e
-              | inr j ↦ not_later t k c le e (p.inside t j)
-            ];
+        outside = λ t k c i le e. elim (in_either t (targets layout h.past) (targets layout p.past) (subst (In t) (targets_both layout h.past p.past) i)) [
+          | inl j ↦ h.outside t k c j (omega (arith, le)) e
+          | inr j ↦ not_later t k c le e (p.inside t j)
+        ];
         end = chunk.start + chunk.length;
         passed = λ j c lt e. elim (cases_lt j number) [
           | inl below ↦ omega (arith, (table.apart j number c chunk below e there).0)
@@ -350,10 +348,10 @@ module _ (kept : Failing) (layout : Layout) (table : IsTable layout.chunks) (wan
         done = subst (λ cs. Works layout write (all_writes_for kept layout cs wants) (all_count_for kept layout write cs wants) a z tally tally'' (Ok (tt {0})))
             (sym (take_one layout.chunks number chunk there))
             (one_more (works_steps layout write) (λ i c. chunk_writes_for kept layout c wants i)
-            (λ i y c. chunk_count_for kept layout write c wants i y) (take number layout.chunks) chunk unmoved h.done
-            (for_all (Ok tt) one));
+            (λ i y c. chunk_count_for kept layout write c wants i y) (take number layout.chunks) chunk unmoved h.done (for_all (Ok tt) one));
       }
         where
+          -- a block of this chunk lies in no later one
           not_later : (t : Target) (k : ℕ) (c : Chunk) → number + 1 ≤ k → slice_get layout.chunks k ≡ Some c → t.chunk ≡ chunk → is_in_chunk c t ≡ false
           not_later t k c le e mine = false_from_ne_true (is_in_chunk c t) (λ q.
               let same = (with_one_start layout table number k chunk c there e (ap (λ (x : Chunk). x.start) (sym mine) ∙ eqb-true t.chunk.start c.start q)).0 in
@@ -377,6 +375,7 @@ pub some_and : {X : Type 0} (o : Option X) (P : X → Type 0) → IsSomeAnd o P 
 some_and None P h = absurd h
 some_and (Some x) P h = (x, refl, h)
 
+-- blocks can be mended still, behind syncs
 pub can_mend_synced : (write : Bool) (a b : Seen) (store : Blocks) (m n : List Bool) → CanMend write a store m → OnlySyncs a b → length n ≡ length m
     → CanMend write b store n
 can_mend_synced write a b store m n can only long =

@@ -1,32 +1,23 @@
 -- The writes of a full stripe lie where it is wrong.
 use Rattle.std.proofs.Common.{◌≡◌, ℕ, ◌+◌, ◌-◌, ◌*◌, ◌<◌, ◌≤◌, true, List, length, Some, IsNone, IsSomeAnd, ◌⊎◌, refl, sym, ap, ◌∙◌, subst, inl, inr, arith}
-use Rattle.std.proofs.lemmas.Option.{same_Some}
-use Rattle.std.specs.List.{flat_map, list_any}
-use Rattle.btr_chunk.specs.Mapping.{HasPart, place_at}
-use Rattle.btr_chunk.specs.Table.{IsTable}
-use Rattle.btr_chunk.specs.declared.place.Part.{Part}
+use Rattle.btr_scrub.proofs.Common.{Failing, HasPart, Images, IsSoundRow, IsTable, Layout, Part, Row, Target, Write, flat_map, list_any, mending_writes}
+use Rattle.btr_scrub.proofs.Common.{parities, parity_writes, place_at, range_in, range_in_element, range_of, row_writes, same_Some, size_of, wrong_parts}
 use Rattle.btr_chunk.specs.declared.place.Part.TheVariants as part
-use Rattle.btr_rack.specs.Rack.{range_in}
 use Rattle.btr_rack.specs.declared.place.Place.{Place as Range}
-use Rattle.btr_read.specs.Candidates.{Target, range_of, size_of}
-use Rattle.btr_read.specs.Layout.{Layout}
-use Rattle.btr_scrub_copies.specs.Fresh.{Failing}
-use Rattle.btr_scrub_row.specs.Wanted.{mending_writes, wrong_parts}
 use Rattle.btr_scrub.specs.BlocksInRows.{In}
 use Rattle.btr_scrub.specs.Repair.{covers}
 use Rattle.btr_scrub.specs.Columns.{Committed, IsInWrongColumn, IsWrongAt}
-use Rattle.btr_scrub_row.specs.Rows.{Row, parities, parity_writes, range_in_element, row_writes}
 use Rattle.btr_scrub.specs.Staying.{IsInWrong, IsRowOf, RowWritesAreWrong}
-use Rattle.btr_scrub.specs.Survival.{GetsRight, IsParity, IsSoundRow}
+use Rattle.btr_scrub.specs.Survival.{GetsRight, IsParity}
 use Rattle.btr_scrub.proofs.Elements.{has_ranges}
 use Rattle.btr_scrub.proofs.OwnPlaces.{wrong_own, own_slice, over_byte}
 use Rattle.btr_scrub.proofs.Places.{covered, covering}
 use Rattle.btr_scrub.proofs.Wrong.{differing_parity_is_wrong}
-use Rattle.btr_scrub_copies.specs.Writes.{Images, Write}
 use Rattle.btr_scrub.proofs.Lists.{any_map, any_append, any_flat, any_is}
 use Rattle.btr_scrub.proofs.RowWrites.{IsRowIn, begins, column_at, piece_is}
 use Rattle.btr_scrub.proofs.RowAgreeing.{is_sector, parity_has}
 
+-- P and Q are parities
 pub is_parity : (q : Part) → (q ≡ part.P) ⊎ (q ≡ part.Q) → IsParity q
 is_parity q (inl e) = subst IsParity (sym e) tt
 is_parity q (inr e) = subst IsParity (sym e) tt
@@ -35,6 +26,7 @@ is_parity q (inr e) = subst IsParity (sym e) tt
 
 module _ (images : Images) (layout : Layout) (C : Committed) (fails : Failing) (blocks : List Target) (row : Row) (slot off : ℕ)
     (table : IsTable layout.chunks) (is_row : IsRowOf layout fails blocks row) (sound : IsSoundRow images layout C row) where
+  -- it is one of the layout's full stripes
   here : IsRowIn layout row
   here = record { chunk_number = is_row.number; there = is_row.there; parity = is_row.parity; position = is_row.position; stand = sound.stand }
 
@@ -46,6 +38,7 @@ module _ (images : Images) (layout : Layout) (C : Committed) (fails : Failing) (
     low : from ≤ place
     high : place < to
 
+  -- a byte of the slot between two places of an element's range is one of the element there
   byte_of : (q : Part) (from len base : ℕ) → range_in_element layout row q 0 65536 ≡ Some (range_in slot base 65536) → base + from ≤ off
       → off < base + from + len → from + len ≤ 65536 → IsByte q from (from + len)
   byte_of q from len base e low high inside = record {
@@ -57,6 +50,7 @@ module _ (images : Images) (layout : Layout) (C : Committed) (fails : Failing) (
     high = omega (arith, low, high);
   }
 
+  -- a byte that is wrong by its place in an element is a wrong one
   wrong_at : (q : Part) (from to : ℕ) → HasPart row.chunk.profile (length row.chunk.stripes) q → (byte : IsByte q from to)
       → IsWrongAt images layout C row q byte.place → IsInWrong images layout C fails blocks slot off
   wrong_at q from to has byte wrong = record {
@@ -71,8 +65,7 @@ module _ (images : Images) (layout : Layout) (C : Committed) (fails : Failing) (
 
   -- a block's range in its own slice
   block_covers : (t : Target) (range : Range) → In t row.blocks → range_of t (part.Slice t.at.index) ≡ Some range → covers slot off range ≡ true
-      → (HasPart row.chunk.profile (length row.chunk.stripes) (part.Slice t.at.index))
-      × IsByte (part.Slice t.at.index) t.at.rest (t.at.rest + size_of t)
+      → (HasPart row.chunk.profile (length row.chunk.stripes) (part.Slice t.at.index)) × IsByte (part.Slice t.at.index) t.at.rest (t.at.rest + size_of t)
   block_covers t range among e c =
       let block = sound.blocks t among in
       let mine : HasPart t.chunk.profile (length t.chunk.stripes) (part.Slice t.at.index) =
@@ -87,6 +80,7 @@ module _ (images : Images) (layout : Layout) (C : Committed) (fails : Failing) (
         byte_of (part.Slice t.at.index) t.at.rest (size_of t) r.off (r.element ∙ ap (λ s. Some (range_in s r.off 65536)) at.0) at.1 at.2 block.lies.inside,
       )
 
+  -- a byte that a write for a block changes is a wrong one
   of_block : (t : Target) → In t row.blocks
       → list_any (λ (w : Write). covers slot off w.range) (mending_writes images row.failing t) ≡ true → IsInWrong images layout C fails blocks slot off
   of_block t among h =
@@ -98,8 +92,7 @@ module _ (images : Images) (layout : Layout) (C : Committed) (fails : Failing) (
 
   -- a sector of a parity in its element
   sector_covers : (q : Part) (column : ℕ) (range : Range) → HasPart row.chunk.profile (length row.chunk.stripes) q → column < 16
-      → range_in_element layout row q (column * 4096) 4096 ≡ Some range → covers slot off range ≡ true
-      → IsByte q (column * 4096) (column * 4096 + 4096)
+      → range_in_element layout row q (column * 4096) 4096 ≡ Some range → covers slot off range ≡ true → IsByte q (column * 4096) (column * 4096 + 4096)
   sector_covers q column range has few e c =
       let b = begins layout row table here q has in
       let start = (place_at row.chunk q (record { row = row.number; index = 0; rest = 0 })).offset in
@@ -108,12 +101,14 @@ module _ (images : Images) (layout : Layout) (C : Committed) (fails : Failing) (
       byte_of q (column * 4096) 4096 start (b.whole ∙ ap (λ n. Some (range_in n start 65536)) at.0)
       (omega (arith, at.1)) (omega (arith, at.2)) (omega (arith, few))
 
+  -- a byte in a column that isn't right is a wrong one of a parity
   parity_wrong : (q : Part) (x : ℕ) → IsParity q → IsInWrongColumn images layout C row q x → IsWrongAt images layout C row q x
   parity_wrong (part.Mirror i) x parity w = absurd parity
   parity_wrong (part.Slice i) x parity w = absurd parity
   parity_wrong part.P x parity w = w
   parity_wrong part.Q x parity w = w
 
+  -- a byte that a write of a parity changes is a wrong one, where each block gets what is right
   of_parity : (q : Part) → IsParity q → HasPart row.chunk.profile (length row.chunk.stripes) q → ((t : Target) → In t row.blocks → GetsRight images C row t)
       → list_any (λ (w : Write). covers slot off w.range) (parity_writes images layout row q) ≡ true → IsInWrong images layout C fails blocks slot off
   of_parity q parity has right h =
@@ -127,6 +122,7 @@ module _ (images : Images) (layout : Layout) (C : Committed) (fails : Failing) (
         wrong = differing_parity_is_wrong images layout C row q s.column sound right parity s.few s.decided s.differs;
       }))
 
+-- each byte that the writes of a row change is a wrong one of it
 pub row_writes_are_wrong : RowWritesAreWrong
 row_writes_are_wrong images layout C fails blocks row slot off table is_row sound right h =
     let W = λ (w : Write). covers slot off w.range in

@@ -1,40 +1,28 @@
 -- What is to be written lies in wrong elements.
 use Rattle.std.proofs.Common.{◌≡◌, ◌⊎◌, ℕ, suc, ◌+◌, ◌-◌, ◌*◌, ◌<◌, ◌≤◌, Bool, true, false, not, cond, ◌&&◌, ◌||◌, eqb, ltb, nat_lt, List, [], ◌∷◌, map, length}
 use Rattle.std.proofs.Common.{get_or, slice_range, Option, Some, None, IfSome, is_some, refl, sym, ap, ◌∙◌, subst, inl, inr, arith}
-use Rattle.std.proofs.lemmas.Bool.{false≢true, and_parts, cases_lt, lt-ltb, not-true}
-use Rattle.std.proofs.lemmas.List.{same_lists, length-map, get_or-map}
+use Rattle.btr_scrub.proofs.Common.{Failing, HasPart, Images, IsSlice, IsSoundRow, Layout, Part, Row, Target, accepted, all_at, and_parts, bad_parts}
+use Rattle.btr_scrub.proofs.Common.{blocks_at, bytes_eq, cases_lt, data_count, element_with, false≢true, fresh, get_or-map, is_good, is_on_behind, is_plain}
+use Rattle.btr_scrub.proofs.Common.{is_sound, is_stale, length-map, length-pasted, list_any, lt-ltb, new_bytes, not-true, option_map_or, own_parts, parity_p}
+use Rattle.btr_scrub.proofs.Common.{parity_q, passes, passing_filter, pasted, renewed, right_for, size_of, slice_count, slices_with, stale_beside}
+use Rattle.btr_scrub.proofs.Common.{stale_parts}
+use Rattle.std.proofs.lemmas.List.{same_lists}
 use Rattle.std.proofs.lemmas.List.FromFn.{length-map-range_with_len, get_or-map-range_with_len}
 use Rattle.std.proofs.lemmas.Slice.Eq.{bytes_eq-Decides}
-use Rattle.std.specs.List.{fold, list_all, list_any}
-use Rattle.std.specs.Option.{option_map_or}
-use Rattle.std.specs.Str.{bytes_eq}
-use Rattle.btr_chunk.specs.Chunk.{data_count}
-use Rattle.btr_chunk.specs.Mapping.{HasPart}
-use Rattle.btr_chunk.specs.declared.place.Part.{Part}
+use Rattle.std.specs.List.{fold, list_all}
 use Rattle.btr_chunk.specs.declared.place.Part.TheVariants as part
-use Rattle.btr_parity.specs.Slices.{IsSlice, parity_p, parity_q}
-use Rattle.btr_rack.specs.Rack.{pasted}
-use Rattle.btr_read.specs.Candidates.{Target, size_of, slice_count}
 use Rattle.btr_read.specs.Candidates as read
-use Rattle.btr_read.specs.Layout.{Layout}
-use Rattle.btr_read.specs.Want.{passes}
-use Rattle.btr_read.specs.Fate.{is_plain}
-use Rattle.btr_scrub_copies.specs.Blocks.{accepted, bad_parts, is_good, is_sound, own_parts}
-use Rattle.btr_scrub_copies.specs.Fresh.{Failing, fresh, is_on_behind, is_stale, stale_beside, stale_parts}
-use Rattle.btr_scrub_copies.proofs.Syncs.{passing_filter}
-use Rattle.btr_scrub_row.specs.Wanted.{new_bytes, renewed}
 use Rattle.btr_parity.specs.Laws.{ranges_of}
 use Rattle.btr_scrub.specs.BlocksInRows.{In}
-use Rattle.btr_scrub.specs.Columns.{Committed, IsRight, right_for}
+use Rattle.btr_scrub.specs.Columns.{Committed, IsRight}
 use Rattle.btr_scrub_row.specs.Rows as rows
-use Rattle.btr_scrub_row.specs.Rows.{Row, blocks_at, column_of, element, element_with, is_sure, is_surer, meets, slice_with, slices_with, with_block}
-use Rattle.btr_scrub.specs.Survival.{BadBlockIsWrong, DifferingParityIsWrong, IsParity, IsSoundRow}
+use Rattle.btr_scrub_row.specs.Rows.{column_of, element, is_sure, is_surer, meets, slice_with, with_block}
+use Rattle.btr_scrub.specs.Survival.{BadBlockIsWrong, DifferingParityIsWrong, IsParity}
 use Rattle.btr_scrub.proofs.Elements.{block_of_element}
 use Rattle.btr_parity.proofs.Ranges.{parity_of_ranges}
-use Rattle.btr_scrub_row.proofs.Pasted.{length-pasted, pasted-above, pasted-below, pasted-within}
+use Rattle.btr_scrub_row.proofs.Pasted.{pasted-above, pasted-below, pasted-within}
 use Rattle.btr_scrub.proofs.Survival.{block_there, at_slice, right_checked, right_plain, slice_there, of_filter, range_same}
-use Rattle.btr_scrub_copies.specs.Writes.{Images}
-use Rattle.btr_scrub.proofs.Lists.{some_of, all_in}
+use Rattle.btr_scrub.proofs.Lists.{some_of}
 use Rattle.std.proofs.lemmas.List.Sums.{AllPass-from_list_all}
 use Rattle.std.proofs.Math.Bool.{or-false}
 
@@ -44,9 +32,11 @@ record IsStaleAt (images : Images) (fails : Failing) (t : Target) (q : Part) : T
   gets : new_bytes images fails t ≡ Some bytes
   differs : bytes_eq (read.element images t q) bytes ≡ false
 
+-- a stale place of a plain sector differs from what the sector gets
 stale_at : (images : Images) (fails : Failing) (t : Target) (q : Part) → is_plain t.want ≡ true → In q (stale_parts images fails t) → IsStaleAt images fails t q
 stale_at images fails t q plain i = by (fresh images fails t) refl i
   where
+    -- a list with a member isn't empty
     some_long : (parts : List Part) → In q parts → nat_lt 0 (length parts) ≡ true
     some_long [] i = absurd i
     some_long (p ∷ parts) i = lt-ltb 0 (suc (length parts)) (omega arith)
@@ -82,9 +72,11 @@ right_value images layout C row t sound among bytes is right =
 pub bad_block_is_wrong : BadBlockIsWrong
 bad_block_is_wrong images layout C row t sound among pass bad right = by (is_plain t.want) refl bad
   where
+    -- the block's own slice
     q : Part
     q = part.Slice t.at.index
 
+    -- so it is with a plain sector and with a checked block
     by : (b : Bool) → is_plain t.want ≡ b → In q (cond b (stale_parts images row.failing t) (bad_parts images t)) → ⊥
     by true plain i =
         let s = stale_at images row.failing t q plain i in
@@ -100,29 +92,31 @@ bad_block_is_wrong images layout C row t sound among pass bad right = by (is_pla
 
 -- ---- decided columns
 
-all_at : {X : Type 0} (f : X → Bool) (xs : List X) (x : X) → list_all f xs ≡ true → In x xs → f x ≡ true
-all_at f xs x h i = all_in (λ x. f x ≡ true) xs x (AllPass-from_list_all f xs h) i
+-- each member of a list passes a test that all do
+tested_at : {X : Type 0} (f : X → Bool) (xs : List X) (x : X) → list_all f xs ≡ true → In x xs → f x ≡ true
+tested_at f xs x h i = all_at (λ x. f x ≡ true) xs x (AllPass-from_list_all f xs h) i
 
 -- the bytes of a column are the same
 abbrev pub SameIn : ℕ → List ℕ → List ℕ → Type 0
 SameIn c xs ys = (i d : ℕ) → c * 4096 ≤ i → i < c * 4096 + 4096 → get_or xs i d ≡ get_or ys i d
 
+-- a byte outside of the block's place is as before the block was put in
 outside : (t : Target) (o : Option (List ℕ)) (xs : List ℕ) (i d : ℕ) → t.at.rest + size_of t ≤ length xs → IfSome o (IsSlice (size_of t))
-    → (i < t.at.rest) ⊎ (t.at.rest + size_of t ≤ i)
-    → get_or (option_map_or (pasted xs t.at.rest) o xs) i d ≡ get_or xs i d
+    → (i < t.at.rest) ⊎ (t.at.rest + size_of t ≤ i) → get_or (option_map_or (pasted xs t.at.rest) o xs) i d ≡ get_or xs i d
 outside t None xs i d fits is out = refl
 outside t (Some b) xs i d fits is (inl lt) = pasted-below xs t.at.rest b (omega (arith, fits, is.long)) i d lt
 outside t (Some b) xs i d fits is (inr le) = pasted-above xs t.at.rest b (omega (arith, fits, is.long)) i d (omega (arith, le, is.long))
 
+-- where two lists have the same byte in the block's place, they have it with the block put in
 inside : (t : Target) (o : Option (List ℕ)) (xs ys : List ℕ) (i d : ℕ) → t.at.rest + size_of t ≤ length xs → t.at.rest + size_of t ≤ length ys
-    → IfSome o (IsSlice (size_of t))
-    → t.at.rest ≤ i → i < t.at.rest + size_of t → get_or xs i d ≡ get_or ys i d
+    → IfSome o (IsSlice (size_of t)) → t.at.rest ≤ i → i < t.at.rest + size_of t → get_or xs i d ≡ get_or ys i d
     → get_or (option_map_or (pasted xs t.at.rest) o xs) i d ≡ get_or (option_map_or (pasted ys t.at.rest) o ys) i d
 inside t None xs ys i d fx fy is le lt same = same
 inside t (Some b) xs ys i d fx fy is le lt same =
     pasted-within xs t.at.rest b (omega (arith, fx, is.long)) i d le (omega (arith, lt, is.long))
     ∙ sym (pasted-within ys t.at.rest b (omega (arith, fy, is.long)) i d le (omega (arith, lt, is.long)))
 
+-- a block that is put in leaves the length
 long_after : (t : Target) (o : Option (List ℕ)) (xs : List ℕ) → t.at.rest + size_of t ≤ length xs → IfSome o (IsSlice (size_of t))
     → length (option_map_or (pasted xs t.at.rest) o xs) ≡ length xs
 long_after t None xs fits is = refl
@@ -136,14 +130,14 @@ module _ (images : Images) (layout : Layout) (g h : Target → Option (List ℕ)
     pub other : IfSome (h t) (IsSlice (size_of t))
     pub same : meets c t ≡ true → g t ≡ h t
 
+  -- with one block put into both, the column's bytes are the same still
   step : (t : Target) (xs ys : List ℕ) → Agrees t → length xs ≡ 65536 → length ys ≡ 65536 → SameIn c xs ys
       → SameIn c (with_block images layout g xs t) (with_block images layout h ys t)
   step t xs ys a lx ly same i d from to = elim (cases_lt i t.at.rest) [
     | inl below ↦ out (inl below)
     | inr above ↦ elim (cases_lt i (t.at.rest + size_of t)) [
       | inl within ↦
-          let met : meets c t ≡ true =
-          ap (λ b. b && ltb (c * 4096) (t.at.rest + size_of t)) (lt-ltb t.at.rest (c * 4096 + 4096) (omega (arith, above, to)))
+          let met : meets c t ≡ true = ap (λ b. b && ltb (c * 4096) (t.at.rest + size_of t)) (lt-ltb t.at.rest (c * 4096 + 4096) (omega (arith, above, to)))
           ∙ lt-ltb (c * 4096) (t.at.rest + size_of t) (omega (arith, from, within)) in
           inside t (g t) xs ys i d (omega (arith, a.inside, lx)) (omega (arith, a.inside, ly)) a.one above within (same i d from to)
           ∙ ap (λ o. get_or (option_map_or (pasted ys t.at.rest) o ys) i d) (a.same met)
@@ -151,6 +145,7 @@ module _ (images : Images) (layout : Layout) (g h : Target → Option (List ℕ)
     ]
   ]
     where
+      -- outside of the block's place they are as before
       out : (i < t.at.rest) ⊎ (t.at.rest + size_of t ≤ i) → get_or (with_block images layout g xs t) i d ≡ get_or (with_block images layout h ys t) i d
       out o = outside t (g t) xs i d (omega (arith, a.inside, lx)) a.one o ∙ same i d from to
           ∙ sym (outside t (h t) ys i d (omega (arith, a.inside, ly)) a.other o)
@@ -160,6 +155,7 @@ module _ (images : Images) (layout : Layout) (g h : Target → Option (List ℕ)
     pub other_long : length ys ≡ 65536
     pub same : SameIn c xs ys
 
+  -- so it is with all blocks
   folds : (ts : List Target) (xs ys : List ℕ) → ((t : Target) → In t ts → Agrees t) → FoldsAgree xs ys
       → FoldsAgree (fold (with_block images layout g) xs ts) (fold (with_block images layout h) ys ts)
   folds [] xs ys agrees f = f
@@ -180,6 +176,7 @@ module _ (images : Images) (layout : Layout) (g h : Target → Option (List ℕ)
       range_same (slice_with images layout g row i) (slice_with images layout h row i) (c * 4096) (c * 4096 + 4096) (omega (arith, few, f.one_long))
       (f.other_long ∙ sym f.one_long) (λ j from to. f.same j 0 from to)
 
+  -- so are those of all slices
   pub all_columns : (row : Row) → c < 16 → ((i : ℕ) (t : Target) → In t (blocks_at row i) → Agrees t)
       → ((i : ℕ) → i < rows.slice_count row → IsSlice 65536 (element images layout row (part.Slice i)))
       → ranges_of (c * 4096) (c * 4096 + 4096) (slices_with images layout g row) ≡ ranges_of (c * 4096) (c * 4096 + 4096) (slices_with images layout h row)
@@ -201,17 +198,21 @@ not_lost : (b c : Bool) → (not b || c) ≡ true → b ≡ true → c ≡ true
 not_lost true c h e = h
 not_lost false c h e = absurd (false≢true e)
 
+-- what is given is the other, where there is any
 accepted_is : (o p : Option (List ℕ)) → IfSome o (λ bytes. p ≡ Some bytes) → is_some o ≡ true → o ≡ p
 accepted_is None p h e = absurd (false≢true e)
 accepted_is (Some b) p h e = sym h
 
+-- what is given is a slice, or nothing, where the other is
 accepted_slice : (size : ℕ) (o p : Option (List ℕ)) → IfSome o (λ bytes. p ≡ Some bytes) → IfSome p (IsSlice size) → IfSome o (IsSlice size)
 accepted_slice size None p h is = tt
 accepted_slice size (Some b) p h is = subst (λ q. IfSome q (IsSlice size)) h is
 
+-- each of 16 columns lies in an element
 column_fits : (c : ℕ) → c < 16 → c * 4096 + 4096 ≤ 65536
 column_fits c lt = omega (arith, lt)
 
+-- a parity that differs from that of the new data in a decided column isn't right there
 pub differing_parity_is_wrong : DifferingParityIsWrong
 differing_parity_is_wrong images layout C row q c sound right parity few decided differ is =
     let new = new_bytes images row.failing in
@@ -235,6 +236,7 @@ differing_parity_is_wrong images layout C row q c sound right parity few decided
             (sym (or-false (is_some (new_bytes images row.failing t)))
             ∙ (ap (λ b. is_some (new_bytes images row.failing t) || b && is_surer images layout row t) (sym checked) ∙ sure))
 
+    -- what a block gets and what it should have fit it, and are the same where it meets the decided column
     by : (i : ℕ) (t : Target) → In t (blocks_at row i) → list_all (λ t. not (meets c t) || is_sure images layout row t) row.blocks ≡ true
         → Agrees images layout (new_bytes images row.failing) (right_for images C row) c t
     by i t among all =
@@ -245,9 +247,10 @@ differing_parity_is_wrong images layout C row q c sound right parity few decided
           one = accepted_slice (size_of t) (new_bytes images row.failing t) (right_for images C row t) (right t there) block.bytes;
           other = block.bytes;
           same = λ met. gets t there (not_lost (meets c t) (is_sure images layout row t)
-              (all_at (λ u. not (meets c u) || is_sure images layout row u) row.blocks t all there) met);
+              (tested_at (λ u. not (meets c u) || is_sure images layout row u) row.blocks t all there) met);
         }
 
+    -- a column of a parity hangs on that column of the slices alone
     parts : (q : Part) → IsParity q → ranges_of (c * 4096) (c * 4096 + 4096) (slices_with images layout (new_bytes images row.failing) row)
         ≡ ranges_of (c * 4096) (c * 4096 + 4096) (slices_with images layout (right_for images C row) row)
         → column_of c (element_with images layout (new_bytes images row.failing) row q)

@@ -56,7 +56,7 @@ pub record Lists (old new : Gathered) (done : List Met) : Type 0 where
   pub unchecked : new.unchecked ≡ fold count_met old.unchecked done
 
 -- the checksum of the sector at an address is kept, as one of this kind
-pub record IsKept (kind : SumKind) (ahead : SumsAhead) (addr : ℕ) : Type 0 where
+pub record IsSumKept (kind : SumKind) (ahead : SumsAhead) (addr : ℕ) : Type 0 where
   pub sum : Sum
   pub of_kind : ahead.kind ≡ kind
   pub kept : kept_sum ahead addr ≡ Some sum
@@ -64,7 +64,7 @@ pub record IsKept (kind : SumKind) (ahead : SumsAhead) (addr : ℕ) : Type 0 whe
 -- n of so many sectors from an address on were listed, whose checksums are kept
 pub record ListsKept (addr most : ℕ) (ahead : SumsAhead) (old new : Gathered) (n : ℕ) : Type 0 where
   pub few : n ≤ most
-  pub kept : (i : ℕ) → i < n → IsKept old.list.kind ahead (addr + i * 4096)
+  pub kept : (i : ℕ) → i < n → IsSumKept old.list.kind ahead (addr + i * 4096)
   pub lists : Lists old new (sectors_met (kept_sum ahead) n addr)
 
 -- an extent at an address passes the end of a chunk of the table, or is a tree block that crosses an element of it
@@ -118,7 +118,7 @@ GathersSome s sums addr most x y (Ok n) =
 GathersSome s sums addr most x y (Err stop) = Gathers (sector s sums addr) x y (Err stop)
 
 -- A program has come so far: some marks of it are past, whose steps are listed, and what is left is another program.
-pub record Reaches {A : Type 0} (p q : Meeting A) (x y : Scene) : Type 0 where
+pub record HasPassed {A : Type 0} (p q : Meeting A) (x y : Scene) : Type 0 where
   pub reads : OnlyReads x.rack y.rack
   pub volume : SameVolume x.vol y.vol
   pub serves : Serves y.rack y.vol.store

@@ -88,34 +88,34 @@ module _ (kind : SumKind) where
       run_wants run.addr run.kind sums marks ++ wants_of runs (drop (sectors_of run.kind * sum_size kind) sums) (drop (trees_of run.kind) marks)
 
   -- there are as many checksums and marks as sectors and tree blocks
-  pub record IsWhole (runs : List Run) (sums : List ℕ) (marks : List TreeMark) : Type 0 where
+  pub record IsWholeList (runs : List Run) (sums : List ℕ) (marks : List TreeMark) : Type 0 where
     pub runs_fit : AreRuns runs
     pub sums_fit : length sums ≡ all_sectors runs * sum_size kind
     pub marks_fit : length marks ≡ all_trees runs
 
 -- a list of blocks
-pub record Kept : Type 0 where
+pub record KeptBlocks : Type 0 where
   pub kind : SumKind
   pub runs : List Run
   pub sums : List ℕ
   pub marks : List TreeMark
 
 -- the blocks that a list has
-abbrev pub kept_wants : Kept → List Want
+abbrev pub kept_wants : KeptBlocks → List Want
 kept_wants kept = wants_of kept.kind kept.runs kept.sums kept.marks
 
 -- it has a checksum and a mark for each of them
-abbrev pub IsList : Kept → Type 0
-IsList kept = IsWhole kept.kind kept.runs kept.sums kept.marks
+abbrev pub IsList : KeptBlocks → Type 0
+IsList kept = IsWholeList kept.kind kept.runs kept.sums kept.marks
 
 -- blocks were put behind the others
-pub record AddsAll (old new : Kept) (more : List Want) : Type 0 where
+pub record AddsAll (old new : KeptBlocks) (more : List Want) : Type 0 where
   pub is_list : IsList new
   pub kind : new.kind ≡ old.kind
   pub wants : kept_wants new ≡ kept_wants old ++ more
 
 -- one block was put behind the others
-abbrev pub AddsTo : Kept → Kept → Want → Type 0
+abbrev pub AddsTo : KeptBlocks → KeptBlocks → Want → Type 0
 AddsTo old new want = AddsAll old new (want ∷ [])
 
 -- a want can be put into a list with checksums of a kind: a sector has one of it, a plain one ends
@@ -132,7 +132,7 @@ AreOfKind kind [] = Unit {0}
 AreOfKind kind (want ∷ wants) = IsOfKind kind want × AreOfKind kind wants
 
 -- a run was put behind the others
-pub record Begins (old new : Kept) (run : Run) : Type 0 where
+pub record Begins (old new : KeptBlocks) (run : Run) : Type 0 where
   pub kind : new.kind ≡ old.kind
   pub runs : new.runs ≡ old.runs ++ run ∷ []
   pub sums : new.sums ≡ old.sums
@@ -200,11 +200,11 @@ module _ (kind : SumKind) where
     pub marks_fit : length marks ≡ all_trees runs
 
 -- what a reader has still to give, which stands at these places
-abbrev pub left_in : Kept → ℕ → ℕ → ℕ → ℕ → List Want
+abbrev pub left_in : KeptBlocks → ℕ → ℕ → ℕ → ℕ → List Want
 left_in kept run past sum mark = wants_left kept.kind (drop run kept.runs) past (drop sum kept.sums) (drop mark kept.marks)
 
 -- what a reader has still to give stands at such a place in its list
-abbrev pub StandsIn : Kept → ℕ → ℕ → ℕ → ℕ → Type 0
+abbrev pub StandsIn : KeptBlocks → ℕ → ℕ → ℕ → ℕ → Type 0
 StandsIn kept run past sum mark = IsPlace kept.kind (drop run kept.runs) past (drop sum kept.sums) (drop mark kept.marks)
 
 -- what a reader gives: the next block, or nothing at the end
@@ -245,5 +245,5 @@ PassesIf false old end new = new ≡ old
 -- a run has 16 bytes of memory, and so has a mark: a list takes at most 48 bytes
 -- for each sector with a checksum, 16 for each without, and 32 for each tree block
 abbrev pub FewBytes : Type 0
-FewBytes = (kept : Kept) → IsList kept → length kept.runs * 16 + length kept.sums + length kept.marks * 16
+FewBytes = (kept : KeptBlocks) → IsList kept → length kept.runs * 16 + length kept.sums + length kept.marks * 16
     ≤ all_sectors kept.runs * 48 + all_plains kept.runs * 16 + all_trees kept.runs * 32

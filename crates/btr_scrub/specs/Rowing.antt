@@ -11,7 +11,7 @@ use Rattle.btr_read.specs.declared.want.Want.{Want}
 use Rattle.btr_scrub_row.specs.Rows.{Row, has_doubtful}
 use Rattle.btr_scrub_row.specs.declared.mended.MendedRow.{MendedRow}
 use Rattle.btr_scrub.specs.BlocksInRows.{In}
-use Rattle.btr_scrub.specs.Listed.{AddsAll, Kept, plains_from}
+use Rattle.btr_scrub.specs.Listed.{AddsAll, KeptBlocks, plains_from}
 use Rattle.btr_scrub.specs.Repair.{ok_or_none}
 use Rattle.btr_scrub.specs.declared.rowed.PlainRun.{PlainRun}
 
@@ -83,10 +83,10 @@ PassesUnless true chunk old new = new ≡ old
 PassesUnless false chunk old new = (run : Option PlainRun) × PassesRows chunk old run new
 
 -- plain sectors were put behind a list, if there are some
-abbrev pub AddsRun : Kept → Kept → Option PlainRun → Type 0
+abbrev pub AddsRun : KeptBlocks → KeptBlocks → Option PlainRun → Type 0
 AddsRun before after None = after ≡ before
 AddsRun before after (Some run) = AddsAll before after (plains_from run.addr run.count)
 
 -- a reader passes over plain sectors up to the start of a row, and they were put behind a list, or none
-abbrev pub KeepsRows : Chunk → List Want → List Want → Kept → Kept → Type 0
+abbrev pub KeepsRows : Chunk → List Want → List Want → KeptBlocks → KeptBlocks → Type 0
 KeepsRows chunk old new before after = (run : Option PlainRun) × PassesRows chunk old run new × AddsRun before after run

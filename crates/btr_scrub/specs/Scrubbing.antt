@@ -15,7 +15,7 @@ use Rattle.btr_read.specs.declared.want.Want.{Want}
 use Rattle.btr_scrub_copies.specs.Mending.{Repairs, mended_of}
 use Rattle.btr_scrub_copies.specs.Syncing.{AreMarked, IsSyncOr, Strands, plain}
 use Rattle.btr_scrub_copies.specs.Turns.{WaitsAt}
-use Rattle.btr_scrub_copies.specs.Writes.{AreWritable, Does, Images, Write, writes_if}
+use Rattle.btr_scrub_copies.specs.Writes.{AreWritable, DoesWrites, Images, Write, writes_if}
 use Rattle.btr_scrub_copies.specs.declared.mended.MendFault.{MendFault}
 use Rattle.btr_scrub_copies.specs.declared.mended.Mended.{Mended}
 use Rattle.btr_rack.specs.declared.place.Place.{Place as Range}
@@ -30,7 +30,7 @@ use Rattle.btr_scrub_copies.specs.Fresh.{Failing, freshened}
 use Rattle.btr_scrub_row.specs.Wanted.{mending_writes}
 use Rattle.btr_scrub.specs.Repair.{first_missing, is_in_chunk, rows_in, stood}
 use Rattle.btr_read.specs.Fate.{is_plain}
-use Rattle.btr_scrub.specs.declared.progress.Progress.{Progress}
+use Rattle.btr_scrub.specs.declared.progress.ScrubState.{ScrubState}
 use Rattle.btr_scrub.specs.declared.tally.Tally.{Tally}
 use Rattle.btr_scrub.specs.declared.task.ChunkTask.{ChunkTask}
 
@@ -98,7 +98,7 @@ IsOfScrub layout = IsSyncOr (LiesInStripe layout)
 -- waits for a sync then waited before, or lies in a stripe; where all that waited was marked, it is.
 pub record Scrubs {A : Type 0} (layout : Layout) (write : Bool) (writes : Images → List Write) (count : Images → Tally → Tally) (marks marks' : List Bool)
     (old new : Seen) (tally tally' : Tally) (result : Result A MendFault) : Type 0 where
-  pub does : Does (IsOfScrub layout) (λ images. writes_if write (writes images)) [] [] (plain old) (plain new) result
+  pub does : DoesWrites (IsOfScrub layout) (λ images. writes_if write (writes images)) [] [] (plain old) (plain new) result
   pub waits : WaitsAt (LiesInStripe layout) old new
   pub marked : AreMarked marks old.unsynced → AreMarked marks' new.unsynced
   pub stranded : Strands old.never_synced new.never_synced result
@@ -143,7 +143,7 @@ abbrev pub PassesChunk : Layout → ℕ → List Want → List Want → Type 0
 PassesChunk layout number old new = (chunk : Chunk) → slice_get layout.chunks number ≡ Some chunk → IsPastChunk layout chunk old new
 
 -- exactly the writes that are its own were made, or those up to one that failed, and what it counts was counted
-abbrev pub ScrubsChunk : {A : Type 0} → Layout → ChunkTask → (Chunk → Images → List Write) → (Chunk → Images → Tally → Tally) → Progress → Progress → Seen
+abbrev pub ScrubsChunk : {A : Type 0} → Layout → ChunkTask → (Chunk → Images → List Write) → (Chunk → Images → Tally → Tally) → ScrubState → ScrubState → Seen
     → Seen → Result A MendFault → Type 0
 ScrubsChunk layout task writes count from to old new result = (chunk : Chunk) → slice_get layout.chunks task.number ≡ Some chunk
     → Scrubs (alone layout chunk) task.how.write (writes chunk) (count chunk) from.marks.items to.marks.items old new from.tally to.tally result
@@ -209,7 +209,7 @@ all_count_for fails layout write chunks wants images tally = fold (λ tally chun
 -- failed. Where nothing waited for a sync nothing does at the end, and at a halt what lies in stripes of one chunk.
 pub record Works {A : Type 0} (layout : Layout) (write : Bool) (writes : Images → List Write) (count : Images → Tally → Tally) (old new : Seen)
     (tally tally' : Tally) (result : Result A MendFault) : Type 0 where
-  pub does : Does (IsOfScrub layout) (λ images. writes_if write (writes images)) [] [] (plain old) (plain new) result
+  pub does : DoesWrites (IsOfScrub layout) (λ images. writes_if write (writes images)) [] [] (plain old) (plain new) result
   pub counts : OnOk result (IfSome old.held (λ images. tally' ≡ count images tally))
   pub synced : OnOk result (old.unsynced ≡ [] → new.unsynced ≡ [])
   pub waits : old.unsynced ≡ [] → WaitsInOne layout old new
@@ -217,7 +217,7 @@ pub record Works {A : Type 0} (layout : Layout) (write : Bool) (writes : Images 
   pub unwritten : write ≡ false → OnlyReads old new
 
 -- the same for the chunk of a number
-abbrev pub WorksChunk : {A : Type 0} → Layout → ChunkTask → (Chunk → Images → List Write) → (Chunk → Images → Tally → Tally) → Progress → Progress → Seen
+abbrev pub WorksChunk : {A : Type 0} → Layout → ChunkTask → (Chunk → Images → List Write) → (Chunk → Images → Tally → Tally) → ScrubState → ScrubState → Seen
     → Seen → Result A MendFault → Type 0
 WorksChunk layout task writes count from to old new result = (chunk : Chunk) → slice_get layout.chunks task.number ≡ Some chunk
     → Works (alone layout chunk) task.how.write (writes chunk) (count chunk) old new from.tally to.tally result

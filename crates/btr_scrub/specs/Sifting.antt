@@ -156,14 +156,14 @@ Judges layout held wants sieve None = AreSifted layout held wants sieve
 Judges layout held wants sieve (Some fault) = IsFirstRefused layout 0 wants fault
 
 -- a list has the blocks of one, and behind them those of another, which counted on
-pub record IsBehind (whole more after : Gathered) : Type 0 where
+pub record ContinuesList (whole more after : Gathered) : Type 0 where
   pub is_list : IsList after.list
   pub kind : after.list.kind ≡ whole.list.kind
   pub wants : kept_wants after.list ≡ kept_wants whole.list ++ kept_wants more.list
   pub unchecked : after.unchecked ≡ more.unchecked
 
 -- a sieve has what is kept of a list
-pub record Stands (layout : Layout) (held : Option Images) (whole : Gathered) (sieve : Sieve) : Type 0 where
+pub record HasKeptOf (layout : Layout) (held : Option Images) (whole : Gathered) (sieve : Sieve) : Type 0 where
   pub is_whole : IsList whole.list
   pub can : CanSift layout sieve.sifted
   pub kind : sieve.sifted.kept.kind ≡ whole.list.kind
@@ -178,7 +178,8 @@ lies_in (want ∷ wants) span end = nat_le span.start (addr_of want) && nat_le e
 
 -- a list was sifted behind those before, whatever these are; or it doesn't lie in a span
 abbrev pub WentIn : Layout → Option Images → Gathered → Span → Sieve → Sieve → Bool → Type 0
-WentIn layout held more span old new true = (whole after : Gathered) → Stands layout held whole old → IsBehind whole more after → Stands layout held after new
+WentIn layout held more span old new true =
+    (whole after : Gathered) → HasKeptOf layout held whole old → ContinuesList whole more after → HasKeptOf layout held after new
 WentIn layout held more span old new false = AreBetween layout span.start (span.start + span.length) (kept_wants more.list) → ⊥
 
 -- behind some reads one in a stripe of a chunk failed, and it was the last call
@@ -190,7 +191,7 @@ pub record ImageFails (layout : Layout) (slot : ℕ) (old new : Seen) : Type 0 w
 
 -- what a program met was listed and sifted, and it ended with this answer; or an image failed
 abbrev pub Went : {A : Type 0} → Meeting A → Scene → Seen → Volume → Sieve → Result A Stop → Type 0
-Went p x rack vol sieve (Ok a) = (whole : Gathered) × Gathers p x (scene rack vol whole) (Ok a) × Stands x.vol.store.layout rack.held whole sieve
+Went p x rack vol sieve (Ok a) = (whole : Gathered) × Gathers p x (scene rack vol whole) (Ok a) × HasKeptOf x.vol.store.layout rack.held whole sieve
 Went p x rack vol sieve (Err (stop.Image slot)) = ImageFails x.vol.store.layout slot x.rack rack
 Went p x rack vol sieve (Err why) = (whole : Gathered) × Gathers p x (scene rack vol whole) (Err why)
 

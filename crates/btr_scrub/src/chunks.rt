@@ -11,7 +11,7 @@ ghost use Rattle.btr_scrub.specs.Gathering.{Gathers, scene};
 ghost use Rattle.btr_scrub.specs.Listed.{IsList};
 ghost use Rattle.btr_scrub.specs.Scanning.{IsSpanAt, IsSpanIn};
 ghost use Rattle.btr_scrub.specs.Scrubbing.{CanMend};
-ghost use Rattle.btr_scrub.specs.Sifting.{CanSift, Sieves, Stands};
+ghost use Rattle.btr_scrub.specs.Sifting.{CanSift, Sieves, HasKeptOf};
 ghost use Rattle.btr_scrub.specs.Units as units;
 ghost use Rattle.btr_scrub.specs.declared.gathered.Gathered.{Gathered};
 
@@ -113,7 +113,7 @@ fn sift_chunk<R: Rack>(
     ensures kind { OnOk result (sieve.new.sifted.kept.kind ≡ sieve.old.sifted.kept.kind) }
     ensures end { OnOk result (sieve.new.end ≤ span.now.start + span.now.length) }
     ensures sieves { (chunk : Chunk) (whole : Gathered) → span.now ≡ span_of chunk → Contains vol.old.store.layout.chunks chunk
-        → Stands vol.old.store.layout (R.seen rack.old).held whole sieve.old
+        → HasKeptOf vol.old.store.layout (R.seen rack.old).held whole sieve.old
         → Sieves (units.in_chunk vol.old.sup trees.now.sums chunk trees.now.extents)
         (scene (R.seen rack.old) vol.old whole) (R.seen rack.new) vol.new sieve.new result }
 {
@@ -149,7 +149,7 @@ pub(crate) fn sift_chunks<R: Rack>(
     requires begins { sieve.old.end ≡ 0 }
     requires kind { sieve.old.sifted.kept.kind ≡ kind_in vol.old.sup }
     ensures ready { CanMend false (R.seen rack.new) vol.new.store marks.new }
-    ensures sieves { (whole : Gathered) → Stands vol.old.store.layout (R.seen rack.old).held whole sieve.old
+    ensures sieves { (whole : Gathered) → HasKeptOf vol.old.store.layout (R.seen rack.old).held whole sieve.old
         → Sieves (units.in_chunks vol.old.sup trees.now.sums trees.now.extents vol.old.store.layout.chunks)
         (scene (R.seen rack.old) vol.old whole) (R.seen rack.new) vol.new sieve.new result }
 {

@@ -131,7 +131,7 @@ fn next_extent<R: Rack>(
     ensures others { SameLoans (without_leaf store.old scan.old) (without_leaf store.new scan.new) }
     ensures lo { scan.new.lo ≡ scan.old.lo }
     ensures hi { scan.new.hi ≡ scan.old.hi }
-    ensures nears { ItemRankFalls (rank_of scan.old) (rank_of scan.new) result }
+    ensures rank_falls { ItemRankFalls (rank_of scan.old) (rank_of scan.new) result }
     ensures cause { HasCause store.old.layout (R.seen rack.old) (R.seen rack.new) result }
     ensures content { NextTold s.now (R.seen rack.old) (R.seen rack.new) store.old store.new scan.old scan.new result }
 {

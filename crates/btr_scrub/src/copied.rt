@@ -13,7 +13,7 @@ ghost use Rattle.btr_scrub_row.specs.Wanted.{mending_writes};
 ghost use Rattle.btr_scrub.specs.Scrubbing.{CanMend, CopiesComeNext, GivesBelow, PassesChunk, RepairsSite, Scrubs, ScrubsChunk};
 ghost use Rattle.btr_scrub.specs.Scrubbing.{count_site, counted, counted_plain, counted_site, sites_count, sites_in, sites_writes};
 
-use crate::progress::Progress;
+use crate::progress::ScrubState;
 use crate::reader::Reader;
 use crate::tally::Tally;
 use crate::task::{ChunkTask, Task};
@@ -100,7 +100,7 @@ fn mend_site<R: Rack>(
     task: Task<'_>,
     rack: &mut R,
     store: &mut Store,
-    progress: &mut Progress,
+    progress: &mut ScrubState,
 ) -> Result<(), MendFault>
     requires ready { CanMend task.write (R.seen rack.old) store.old progress.old.marks.items }
     requires copied { IsCopied store.old.layout want.now }
@@ -154,7 +154,7 @@ pub(crate) fn mend_blocks<R: Rack>(
     blocks: &mut Reader<'_>,
     rack: &mut R,
     store: &mut Store,
-    progress: &mut Progress,
+    progress: &mut ScrubState,
 ) -> Result<(), MendFault>
     requires ready { CanMend task.how.write (R.seen rack.old) store.old progress.old.marks.items }
     requires chunk { CopiesComeNext store.old.layout task.number blocks.old }

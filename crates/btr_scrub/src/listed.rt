@@ -26,9 +26,9 @@ pub(crate) struct Listed {
 impl Model for Listed {
     ghost use Rattle.std.specs.Prelude.{◌++◌};
     ghost use Rattle.std.specs.Option.{option_to_list};
-    ghost use Rattle.btr_scrub.specs.Listed.{Kept};
+    ghost use Rattle.btr_scrub.specs.Listed.{KeptBlocks};
 
-    ghost Value = { Kept };
+    ghost Value = { KeptBlocks };
 
     ghost view = { λ s. record { kind = s.kind; runs = s.runs ++ option_to_list s.last; sums = s.sums; marks = s.marks } };
 }

@@ -8,7 +8,7 @@ ghost use Rattle.btr_scrub.specs.Scrubbing.{CanMend, ComesNext, HasRooms, Passes
 ghost use Rattle.btr_scrub.specs.Scrubbing.{chunk_count_for, chunk_writes_for};
 
 use crate::copied::mend_blocks;
-use crate::progress::Progress;
+use crate::progress::ScrubState;
 use crate::reader::Reader;
 use crate::rowed::{RowRoom, mend_rows};
 use crate::task::{ChunkTask, Task};
@@ -31,7 +31,7 @@ fn mend_chunk<R: Rack>(
     rack: &mut R,
     store: &mut Store,
     room: &mut RowRoom,
-    progress: &mut Progress,
+    progress: &mut ScrubState,
 ) -> Result<(), MendFault>
     requires ready { CanMend task.how.write (R.seen rack.old) store.old progress.old.marks.items }
     requires nodesize { task.how.nodesize ≡ store.old.layout.setting.nodesize }
@@ -60,7 +60,7 @@ fn mend_and_sync<R: Rack>(
     rack: &mut R,
     store: &mut Store,
     room: &mut RowRoom,
-    progress: &mut Progress,
+    progress: &mut ScrubState,
 ) -> Result<(), MendFault>
     requires ready { CanMend task.how.write (R.seen rack.old) store.old progress.old.marks.items }
     requires nodesize { task.how.nodesize ≡ store.old.layout.setting.nodesize }
@@ -91,7 +91,7 @@ pub(crate) fn mend_all<R: Rack>(
     rack: &mut R,
     store: &mut Store,
     room: &mut RowRoom,
-    progress: &mut Progress,
+    progress: &mut ScrubState,
 ) -> Result<(), MendFault>
     requires ready { CanMend task.write (R.seen rack.old) store.old progress.old.marks.items }
     requires nodesize { task.nodesize ≡ store.old.layout.setting.nodesize }

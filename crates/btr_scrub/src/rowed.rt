@@ -20,7 +20,7 @@ ghost use Rattle.btr_scrub.specs.Scrubbing.{CanMend, HasRooms, PassesChunk, Rows
 
 use crate::copied::next_below;
 use crate::listed::Listed;
-use crate::progress::Progress;
+use crate::progress::ScrubState;
 use crate::reader::Reader;
 use crate::tally::Tally;
 use crate::task::{ChunkTask, Task};
@@ -175,7 +175,7 @@ fn mend_collected<R: Rack>(
     rack: &mut R,
     store: &mut Store,
     room: &mut RowRoom,
-    progress: &mut Progress,
+    progress: &mut ScrubState,
 ) -> Result<(), MendFault>
     requires ready { CanMend task.write (R.seen rack.old) store.old progress.old.marks.items }
     requires nodesize { at.nodesize ≡ store.old.layout.setting.nodesize }
@@ -297,7 +297,7 @@ pub(crate) fn mend_rows<R: Rack>(
     rack: &mut R,
     store: &mut Store,
     room: &mut RowRoom,
-    progress: &mut Progress,
+    progress: &mut ScrubState,
 ) -> Result<(), MendFault>
     requires ready { CanMend task.how.write (R.seen rack.old) store.old progress.old.marks.items }
     requires nodesize { task.how.nodesize ≡ store.old.layout.setting.nodesize }

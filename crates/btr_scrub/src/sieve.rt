@@ -14,7 +14,7 @@ ghost use Rattle.btr_chunk.specs.Table.{IsTable, chunk_at};
 ghost use Rattle.btr_chunk.specs.declared.chunk.Chunk.{Chunk};
 ghost use Rattle.btr_scrub.specs.Rowing.{KeepsRows};
 ghost use Rattle.btr_chunk.specs.Chunk.{mirrors};
-ghost use Rattle.btr_scrub.specs.Sifting.{CanSift, PassesInert, Sifts, SiftsNext, Stands, WentIn, is_copy_needed, lies_in};
+ghost use Rattle.btr_scrub.specs.Sifting.{CanSift, PassesInert, Sifts, SiftsNext, HasKeptOf, WentIn, is_copy_needed, lies_in};
 ghost use Rattle.btr_scrub.specs.Judged.{has_older};
 ghost use Rattle.btr_read.specs.Candidates.{Target};
 ghost use Rattle.btr_scrub.specs.Whole.{answer_of};
@@ -240,7 +240,7 @@ pub(crate) fn new_sieve(alloc: Global, kind: SumKind, nodesize: u32, room: RowRo
     ensures can { (layout : Layout) → nodesize ≡ layout.setting.nodesize → HasRooms layout room.buffer → CanSift layout result.sifted }
     ensures begins { result.end ≡ 0 }
     ensures stands { (layout : Layout) (held : Option Images) (list : Gathered) → kept_wants list.list ≡ [] → IsList list.list → list.list.kind ≡ kind
-        → list.unchecked ≡ 0 → CanSift layout result.sifted → Stands layout held list result }
+        → list.unchecked ≡ 0 → CanSift layout result.sifted → HasKeptOf layout held list result }
 {
     let sifted = Sifted {
         kept: Listed::new(alloc, kind),

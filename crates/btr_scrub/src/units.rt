@@ -7,7 +7,7 @@ ghost use Rattle.btr_rack.specs.Rack.{OnlyReads};
 ghost use Rattle.btr_volume.specs.Looking.{SameVolume};
 ghost use Rattle.btr_scrub.specs.Gathering.{scene};
 ghost use Rattle.btr_scrub.specs.Scrubbing.{CanMend, HasRooms};
-ghost use Rattle.btr_scrub.specs.Sifting.{CanSift, Sieves, SiftsUnits, Stands};
+ghost use Rattle.btr_scrub.specs.Sifting.{CanSift, Sieves, SiftsUnits, HasKeptOf};
 ghost use Rattle.btr_scrub.specs.Units as units;
 ghost use Rattle.btr_scrub.specs.declared.gathered.Gathered.{Gathered};
 
@@ -38,7 +38,7 @@ fn sift_extents<R: Rack>(
     requires begins { sieve.old.end ≡ 0 }
     requires kind { sieve.old.sifted.kept.kind ≡ kind_in vol.old.sup }
     ensures ready { CanMend false (R.seen rack.new) vol.new.store marks.new }
-    ensures sieves { (whole : Gathered) → Stands vol.old.store.layout (R.seen rack.old).held whole sieve.old
+    ensures sieves { (whole : Gathered) → HasKeptOf vol.old.store.layout (R.seen rack.old).held whole sieve.old
         → Sieves (units.with_extents vol.old.sup vol.old.store.layout.chunks (Some extents.now))
         (scene (R.seen rack.old) vol.old whole) (R.seen rack.new) vol.new sieve.new result }
 {
@@ -67,7 +67,7 @@ fn sift_all<R: Rack>(
     requires begins { sieve.old.end ≡ 0 }
     requires kind { sieve.old.sifted.kept.kind ≡ kind_in vol.old.sup }
     ensures ready { CanMend false (R.seen rack.new) vol.new.store marks.new }
-    ensures sieves { (whole : Gathered) → Stands vol.old.store.layout (R.seen rack.old).held whole sieve.old
+    ensures sieves { (whole : Gathered) → HasKeptOf vol.old.store.layout (R.seen rack.old).held whole sieve.old
         → Sieves (units.units_in vol.old.sup vol.old.store.layout.chunks)
         (scene (R.seen rack.old) vol.old whole) (R.seen rack.new) vol.new sieve.new result }
 {

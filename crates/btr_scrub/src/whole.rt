@@ -16,7 +16,7 @@ ghost use Rattle.btr_scrub.specs.Whole.{Refuses, ScrubsAll, WorksFrom};
 use crate::doubts::failing_images;
 use crate::mending::mend_all;
 use crate::missing::missing_device;
-use crate::progress::Progress;
+use crate::progress::ScrubState;
 use crate::reader::read_all;
 use crate::rowed::RowRoom;
 use crate::sieve::{Sieve, stop_of};
@@ -114,7 +114,7 @@ fn mend_kept<R: Rack>(
         write,
         failing: &failing,
     };
-    let mut progress = Progress {
+    let mut progress = ScrubState {
         marks,
         tally: begun(sound, unchecked),
     };

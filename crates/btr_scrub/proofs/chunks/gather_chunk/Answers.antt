@@ -1,10 +1,7 @@
 use Rattle.std.proofs.Common.{[], refl, sym, ap, ◌∙◌}
-use Rattle.btr_files.specs.Sums.{tree_behind}
+use Rattle.btr_scrub.proofs.Common.{Volume, key, scene, tree_behind}
 use Rattle.btr_files.proofs.Sectors.{copied_is}
-use Rattle.btr_volume.specs.Tree.{key}
-use Rattle.btr_volume.specs.declared.volume.Volume.{Volume}
 use Rattle.btr_walk.specs.Range.{range}
-use Rattle.btr_scrub.specs.Gathering.{scene}
 use Rattle.btr_scrub.proofs.Chunkwise.{gathers_scan, range_of_span}
 use Rattle.btr_scrub.proofs.Scanning.{on_as}
 use Rattle.btr_scrub.proofs.chunks.gather_chunk.Goals as goal

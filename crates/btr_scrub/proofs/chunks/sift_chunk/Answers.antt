@@ -1,16 +1,8 @@
 use Rattle.std.proofs.Common.{◌+◌, ◌<◌, ◌++◌, Err, refl, sym, ap, ◌∙◌, subst, arith}
-use Rattle.btr_read.specs.Layout.{Layout}
-use Rattle.btr_read.proofs.ReadsOn.{same_held}
-use Rattle.btr_scrub_copies.specs.Writes.{AccountsMend}
-use Rattle.btr_scrub.specs.Gathering.{scene, wants_among}
-use Rattle.btr_scrub.specs.Listed.{kept_wants}
+use Rattle.btr_scrub.proofs.Common.{AccountsMend, Gathered, HasKeptOf, Layout, LiesInStripe, Span, Volume, begun, in_chunk, kept_wants, same_held, scene}
+use Rattle.btr_scrub.proofs.Common.{wants_among}
 use Rattle.btr_scrub.specs.Order.{AreBetween}
-use Rattle.btr_scrub.specs.WrittenRanges.{LiesInStripe}
-use Rattle.btr_scrub.specs.Sifting.{Stands, WentIn, begun}
-use Rattle.btr_scrub.specs.Units.{in_chunk}
-use Rattle.btr_scrub.specs.declared.extent.Span.{Span}
-use Rattle.btr_scrub.specs.declared.gathered.Gathered.{Gathered}
-use Rattle.btr_volume.specs.declared.volume.Volume.{Volume}
+use Rattle.btr_scrub.specs.Sifting.{WentIn}
 use Rattle.btr_volume.specs.declared.stop.Stop.TheVariants.{Tree}
 use Rattle.btr_walk.specs.declared.fault.TreeFault.TheVariants.{Malformed}
 use Rattle.btr_scrub.proofs.Lists.{at_in, in_of}
@@ -45,8 +37,8 @@ returns-in-Ok-true-clause-sieves g c chunk whole span there stands =
     let kind = c.emptied.ensures.kind ∙ stands.kind in
     let h = gathers_behind p a b vol after empty whole listed c.in_ok-end.end c.emptied.ensures.wants kind stands.unchecked stands.is_whole is in
     let layout = is.volume.store.layout in
-    let here = subst (λ held. Stands after.store.layout held whole c.args.sieve.now) (sym (same_held is.reads))
-    (subst (λ (l : Layout). Stands l a.held whole c.args.sieve.now) (sym layout) stands) in
+    let here = subst (λ held. HasKeptOf after.store.layout held whole c.args.sieve.now) (sym (same_held is.reads))
+    (subst (λ (l : Layout). HasKeptOf l a.held whole c.args.sieve.now) (sym layout) stands) in
     let all = is_behind whole.list listed.list stands.is_whole is.lists.is_list (is.lists.kind ∙ kind) whole.unchecked listed.unchecked listed.unchecked refl in
     let went = subst (WentIn after.store.layout b.held listed c.args.span.now c.args.sieve.now c.sift_listed.new.sieve) c.in-Ok-true.field-0-test
     c.in-Ok-true.ensures.went in
@@ -54,8 +46,8 @@ returns-in-Ok-true-clause-sieves g c chunk whole span there stands =
     sieves_ok p (scene a vol whole) z last c.sift_listed.new.sieve (behind whole listed) c.in_ok-end.end
     (gathers_later p a b z vol after last whole (behind whole listed) c.in-Ok-true.ensures.reads
     (record { sup = refl; store = c.in-Ok-true.ensures.loans }) c.in-Ok-true.ensures.ready.serves c.in_ok-end.end h)
-    (subst (λ held. Stands vol.store.layout held (behind whole listed) c.sift_listed.new.sieve) (sym (same_held c.in-Ok-true.ensures.reads))
-    (subst (λ (l : Layout). Stands l b.held (behind whole listed) c.sift_listed.new.sieve) layout more))
+    (subst (λ held. HasKeptOf vol.store.layout held (behind whole listed) c.sift_listed.new.sieve) (sym (same_held c.in-Ok-true.ensures.reads))
+    (subst (λ (l : Layout). HasKeptOf l b.held (behind whole listed) c.sift_listed.new.sieve) layout more))
 
 pub returns-in-Ok-false-clause-sieves : goal.returns-in-Ok-false-clause-sieves
 returns-in-Ok-false-clause-sieves g c chunk whole span there stands =

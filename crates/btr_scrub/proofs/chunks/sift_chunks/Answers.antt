@@ -1,12 +1,7 @@
 use Rattle.std.proofs.Common.{◌≡◌, ℕ, ◌+◌, ◌≤◌, length, drop, slice_get, Some, Ok, Err, sym, ap, ◌∙◌, subst, arith}
 use Rattle.std.proofs.lemmas.List.{drop_all}
-use Rattle.btr_prog.specs.Prog.{Return}
-use Rattle.btr_read.specs.Layout.{Layout}
-use Rattle.btr_super.specs.declared.superblock.Super.{Super}
-use Rattle.btr_scrub.specs.Gathering.{Reaches, scene}
-use Rattle.btr_scrub.specs.Sifting.{CanSift, Sieves, Stands}
-use Rattle.btr_scrub.specs.declared.extent.Span.{Span}
-use Rattle.btr_scrub.specs.Units.{Meeting, in_chunk, in_chunks}
+use Rattle.btr_scrub.proofs.Common.{CanSift, HasKeptOf, HasPassed, Layout, Meeting, Return, Span, Super, in_chunk, in_chunks, scene}
+use Rattle.btr_scrub.specs.Sifting.{Sieves}
 use Rattle.btr_scrub.proofs.Chunkwise.{chunk_first, contains_at, span_in}
 use Rattle.btr_scrub.proofs.Gathering.{gathers_value, reaches_ends, reaches_none, reaches_step, same_self, same_then}
 use Rattle.btr_scrub.proofs.Sieved.{sieves_halt, sieves_ok, sieves_passed}
@@ -58,7 +53,7 @@ returns-in_err-sift_chunk-clause-sieves g c whole stands =
     let rest = λ (n : ℕ). in_chunks s sums extents (drop (i + 1) chunks) in
     let there = subst (λ (l : Layout). slice_get l.chunks i ≡ Some at.chunk) c.loop-i.invariant.volume.store.layout at.at in
     sieves_passed c.from_residual.ensures.1 (sieves_halt (in_chunks s sums extents chunks) here rest x y
-    (subst (λ (q : Meeting (Unit {0})). Reaches (in_chunks s sums extents chunks) q x y) (chunk_first s sums extents chunks i at.chunk there) h.1)
+    (subst (λ (q : Meeting (Unit {0})). HasPassed (in_chunks s sums extents chunks) q x y) (chunk_first s sums extents chunks i at.chunk there) h.1)
     z c.sift_chunk.new.vol c.sift_chunk.new.sieve c.in_err-sift_chunk.field-0.0
     (subst (λ (t : Super). Sieves (in_chunk t sums at.chunk extents) y z c.sift_chunk.new.vol c.sift_chunk.new.sieve
     (Err c.in_err-sift_chunk.field-0.0)) c.loop-i.invariant.volume.sup
@@ -97,9 +92,9 @@ loop-i-preserved g c = record {
       (c.in_ok-sift_chunk.ensures.sieves at.chunk h.0 at.is (contains_at c.loop-i.vol.store.layout.chunks i at.chunk at.at) h.2) in (
         one.went.0,
         reaches_step (in_chunks s sums extents chunks) here rest x y
-            (subst (λ (q : Meeting (Unit {0})). Reaches (in_chunks s sums extents chunks) q x y) (chunk_first s sums extents chunks i at.chunk there) h.1)
+            (subst (λ (q : Meeting (Unit {0})). HasPassed (in_chunks s sums extents chunks) q x y) (chunk_first s sums extents chunks i at.chunk there) h.1)
             (scene z c.sift_chunk.new.vol one.went.0) c.in_ok-sift_chunk.field-0 one.went.1,
-        subst (λ (l : Layout). Stands l z.held one.went.0 c.sift_chunk.new.sieve) (sym c.in_ok-sift_chunk.ensures.volume.store.layout) one.went.2,
+        subst (λ (l : Layout). HasKeptOf l z.held one.went.0 c.sift_chunk.new.sieve) (sym c.in_ok-sift_chunk.ensures.volume.store.layout) one.went.2,
       );
 }
 
@@ -118,6 +113,6 @@ returns-clause-sieves g c whole stands =
     let few : length layout.chunks ≤ i = omega (arith, c.loop-i-test.false, c.count-i-end.ensures.count, ap length c.chunks.ensures) in
     let none = ap (in_chunks s sums extents) (drop_all i layout.chunks few) in
     sieves_ok p x rack c.loop-i.vol c.loop-i.sieve h.0 tt
-    (reaches_ends p (Return tt) x y y (Ok tt) (subst (λ (q : Meeting (Unit {0})). Reaches p q x y) none h.1)
+    (reaches_ends p (Return tt) x y y (Ok tt) (subst (λ (q : Meeting (Unit {0})). HasPassed p q x y) none h.1)
     (gathers_value tt y h.2.is_whole c.loop-i.invariant.ready.serves))
-    (subst (λ (l : Layout). Stands l rack.held h.0 c.loop-i.sieve) c.loop-i.invariant.volume.store.layout h.2)
+    (subst (λ (l : Layout). HasKeptOf l rack.held h.0 c.loop-i.sieve) c.loop-i.invariant.volume.store.layout h.2)

@@ -1,12 +1,6 @@
 use Rattle.std.proofs.Common.{◌≡◌, ◌≤◌, Some, drop, false, slice_get}
-use Rattle.btr_chunk.specs.declared.chunk.Chunk.{Chunk}
-use Rattle.btr_files.specs.Sums.{kind_in}
-use Rattle.btr_volume.specs.Looking.{SameVolume}
-use Rattle.btr_scrub.specs.Gathering.{Reaches, scene}
-use Rattle.btr_scrub.specs.Scrubbing.{CanMend}
-use Rattle.btr_scrub.specs.Sifting.{CanSift, Stands}
+use Rattle.btr_scrub.proofs.Common.{CanMend, CanSift, Chunk, Gathered, HasKeptOf, HasPassed, SameVolume, kind_in, scene}
 use Rattle.btr_scrub.specs.Units as units
-use Rattle.btr_scrub.specs.declared.gathered.Gathered.{Gathered}
 use Rattle.btr_scrub.proofs.chunks.sift_chunks.Given as goal
 
 abbrev pub invariant-loop-i : goal.invariant-loop-i
@@ -16,9 +10,9 @@ invariant-loop-i g l = record {
   can : CanSift l.fn.vol.store.layout l.sieve.sifted;
   behind : (chunk : Chunk) → slice_get l.fn.vol.store.layout.chunks l.i ≡ Some chunk → l.sieve.end ≤ chunk.start;
   kind : l.sieve.sifted.kept.kind ≡ kind_in l.fn.vol.sup;
-  reaches : (whole : Gathered) → Stands l.fn.vol.store.layout (g.R.Rack.seen l.fn.rack).held whole l.fn.sieve
-      → (mid : Gathered) × Reaches (units.in_chunks l.fn.vol.sup l.trees.sums l.trees.extents l.fn.vol.store.layout.chunks)
+  reaches : (whole : Gathered) → HasKeptOf l.fn.vol.store.layout (g.R.Rack.seen l.fn.rack).held whole l.fn.sieve
+      → (mid : Gathered) × HasPassed (units.in_chunks l.fn.vol.sup l.trees.sums l.trees.extents l.fn.vol.store.layout.chunks)
       (units.in_chunks l.fn.vol.sup l.trees.sums l.trees.extents (drop l.i l.fn.vol.store.layout.chunks))
       (scene (g.R.Rack.seen l.fn.rack) l.fn.vol whole) (scene (g.R.Rack.seen l.rack) l.vol mid)
-      × Stands l.vol.store.layout (g.R.Rack.seen l.rack).held mid l.sieve;
+      × HasKeptOf l.vol.store.layout (g.R.Rack.seen l.rack).held mid l.sieve;
 }

@@ -1,6 +1,5 @@
 use Rattle.std.proofs.Common.{◌≡◌, ◌+◌, ◌<◌, ◌≤◌, ◌^◌, Some, slice_get, sym, subst, arith}
-use Rattle.btr_chunk.proofs.Rule.{facts}
-use Rattle.btr_scrub.specs.declared.extent.Span.{Span}
+use Rattle.btr_scrub.proofs.Common.{Span, facts}
 use Rattle.btr_scrub.proofs.chunks.span_at.Goals as goal
 
 pub returns : goal.returns

@@ -1,9 +1,6 @@
 use Rattle.std.proofs.Common.{Ok, subst, sym, refl}
-use Rattle.btr_files.specs.Sums.{tree_behind}
+use Rattle.btr_scrub.proofs.Common.{Checked, Gathered, Gathers, blocks_of, scene, tree_behind}
 use Rattle.btr_read.specs.declared.want.Want.TheVariants.{Tree}
-use Rattle.btr_scrub.specs.Gathering.{Gathers, scene}
-use Rattle.btr_scrub.specs.Units.{Checked, blocks_of}
-use Rattle.btr_scrub.specs.declared.gathered.Gathered.{Gathered}
 use Rattle.btr_scrub.proofs.Gathering.{gathers_memory, gathers_met, lists_added}
 use Rattle.btr_scrub.proofs.collecting.gather_blocks.Goals as goal
 

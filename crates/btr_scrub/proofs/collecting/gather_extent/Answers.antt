@@ -1,13 +1,10 @@
 use Rattle.std.proofs.Common.{ℕ, ◌+◌, Some, Ok, Err, sym, ap, ◌∙◌, refl}
-use Rattle.std.proofs.lemmas.Result.{err_from_is_err_and}
-use Rattle.btr_files.specs.Sums.{tree_behind}
-use Rattle.btr_prog.specs.Prog.{Return, Stop, bind}
+use Rattle.btr_scrub.proofs.Common.{Meeting, Return, bind, blocks_of, err_from_is_err_and, extent_met, scene, tree_behind}
+use Rattle.btr_prog.specs.Prog.{Stop}
 use Rattle.btr_read.specs.Fate as fate
 use Rattle.btr_volume.specs.declared.stop.Stop.TheVariants.{Tree}
 use Rattle.btr_walk.specs.declared.fault.TreeFault.TheVariants as tree
 use Rattle.btr_scrub.specs.Extents.{crossing}
-use Rattle.btr_scrub.specs.Gathering.{scene}
-use Rattle.btr_scrub.specs.Units.{Meeting, blocks_of, extent_met}
 use Rattle.btr_scrub.proofs.Extending.{extent_crosses, extent_gives, extent_malformed}
 use Rattle.btr_scrub.proofs.Gathering.{gathers_crossing, gathers_from, gathers_halt, gathers_malformed, gathers_then, gathers_value}
 use Rattle.btr_scrub.proofs.collecting.gather_extent.Goals as goal
@@ -57,8 +54,6 @@ returns-in_err-gather_blocks g c chunk span there =
     let crosses = sym (ap (λ s. crossing s c.args.met.now.extent) span) ∙ sym c.is_crossing.ensures ∙ c.if-is_crossing.false in
     let e = err_from_is_err_and c.from_residual.result c.from_residual.ensures.1 in
     rw (e.1, e.2) (gathers_from (bind p k) (extent_met c.args.vol.now.sup (tree_behind c.args.sums) chunk c.args.met.now.end_before c.args.met.now.leaf
-    (Some c.args.met.now.extent)) x y
-    (Err c.in_err-gather_blocks.field-0.0)
+    (Some c.args.met.now.extent)) x y (Err c.in_err-gather_blocks.field-0.0)
     (sym (extent_gives c.args.vol.now.sup (tree_behind c.args.sums) chunk c.args.met.now.end_before c.args.met.now.leaf c.args.met.now.extent
-    (sym c.is_malformed.ensures ∙ c.if-is_malformed.false) crosses))
-    (gathers_halt p k x y c.in_err-gather_blocks.field-0.0 c.in_err-gather_blocks.ensures))
+    (sym c.is_malformed.ensures ∙ c.if-is_malformed.false) crosses)) (gathers_halt p k x y c.in_err-gather_blocks.field-0.0 c.in_err-gather_blocks.ensures))

@@ -1,17 +1,20 @@
 use Rattle.std.proofs.Common.{◌≡◌, Some, Ok, Err, refl, sym, ap, ◌∙◌, subst, arith}
-use Rattle.std.proofs.lemmas.Result.{err_from_is_err_and}
+use Rattle.btr_scrub.proofs.Common.{Blocks, Gathers, Layout, Scan, Seen, Super, Volume, err_from_is_err_and, extent_met, kind_in, scene, tree_behind}
+use Rattle.btr_scrub.proofs.Common.{without_leaf}
 use Rattle.std.specs.Prelude.{Contains}
-use Rattle.btr_read.specs.Layout.{Layout}
-use Rattle.btr_files.specs.Sums.{kind_in, tree_behind}
-use Rattle.btr_volume.specs.declared.volume.Volume.{Volume}
-use Rattle.btr_walk.specs.ScanEnds.{rank_of, without_leaf}
-use Rattle.btr_scrub.specs.Gathering.{Gathers, scene}
-use Rattle.btr_scrub.specs.Units.{extent_met}
+use Rattle.btr_walk.specs.ScanEnds.{rank_of}
 use Rattle.btr_scrub.specs.Scanning.{ItemRankFalls, NextTold}
 use Rattle.btr_walk.proofs.Staying.{ready_same, room_beside, room_same}
 use Rattle.btr_scrub.proofs.Scanning.{same_layout, without_same}
 use Rattle.btr_scrub.proofs.Underways.{scanned_broken, scanned_ends, scanned_fault, scanned_stops, underway_extent, underway_first, underway_other}
+use Rattle.btr_scrub.specs.declared.collecting.NextExtent.{NextExtent}
 use Rattle.btr_scrub.proofs.collecting.gather_items.Goals as goal
+
+-- what came next is told by the superblock that the scan began with, and as its arm says
+next_told : {s : Super} (s' : Super) (a b : Seen) (old new : Blocks) (scan scan' : Scan) {next next' : NextExtent} → s' ≡ s → next ≡ next'
+    → NextTold s' a b old new scan scan' (Ok next) → NextTold s a b old new scan scan' (Ok next')
+next_told {s} s' a b old new scan scan' {next} sup is told =
+    subst (λ v. NextTold s a b old new scan scan' (Ok v)) is (subst (λ s. NextTold s a b old new scan scan' (Ok next)) sup told)
 
 pub loop-fault-init : goal.loop-fault-init
 loop-fault-init g c = record {
@@ -37,13 +40,8 @@ returns-in-Err-clause-ready g c = c.in-Err.ensures.ready
 pub returns-in-Err-clause-scanned : goal.returns-in-Err-clause-scanned
 returns-in-Err-clause-scanned g c chunk span there =
     let inv = c.loop-fault.invariant in
-    let after : Volume = record { store = c.next_extent.new.store; sup = c.loop-fault.vol.sup } in
-    let sums = tree_behind c.args.sums in
-    scanned_fault c.args.vol.now.sup sums chunk (scene (g.R.Rack.seen c.args.rack.now) c.args.vol.now c.args.gathered.now) c.args.scan.now
-    (scene (g.R.Rack.seen c.loop-fault.rack) c.loop-fault.vol c.loop-fault.gathered) c.loop-fault.scan c.next_extent.new.scan c.loop-fault.end
-    (inv.underway chunk span there)
-    (g.R.Rack.seen c.next_extent.new.rack) after refl c.in-Err.ensures.reads c.in-Err.ensures.others c.in-Err.ensures.ready c.in-Err.fault
-    c.in-Err.ensures.cause
+    scanned_fault (inv.underway chunk span there) (record { store = c.next_extent.new.store; sup = c.loop-fault.vol.sup }) refl c.in-Err.ensures.reads
+    c.in-Err.ensures.others c.in-Err.ensures.ready c.in-Err.fault c.in-Err.ensures.cause
     (subst (λ s. NextTold s (g.R.Rack.seen c.loop-fault.rack) (g.R.Rack.seen c.next_extent.new.rack) c.loop-fault.vol.store c.next_extent.new.store
     c.loop-fault.scan c.next_extent.new.scan (Err c.in-Err.fault)) inv.sup c.in-Err.ensures.content)
 
@@ -53,26 +51,18 @@ returns-in-Ok-End-clause-ready g c = c.in-Ok-End.ensures.ready
 pub returns-in-Ok-End-clause-scanned : goal.returns-in-Ok-End-clause-scanned
 returns-in-Ok-End-clause-scanned g c chunk span there =
     let inv = c.loop-fault.invariant in
-    let after : Volume = record { store = c.next_extent.new.store; sup = c.loop-fault.vol.sup } in
-    let sums = tree_behind c.args.sums in
-    scanned_ends c.args.vol.now.sup sums chunk (scene (g.R.Rack.seen c.args.rack.now) c.args.vol.now c.args.gathered.now) c.args.scan.now
-    (scene (g.R.Rack.seen c.loop-fault.rack) c.loop-fault.vol c.loop-fault.gathered) c.loop-fault.scan c.next_extent.new.scan c.loop-fault.end
-    (inv.underway chunk span there)
-    (g.R.Rack.seen c.next_extent.new.rack) after refl c.in-Ok-End.ensures.reads c.in-Ok-End.ensures.others c.in-Ok-End.ensures.ready
-    (subst (λ v. NextTold c.args.vol.now.sup (g.R.Rack.seen c.loop-fault.rack) (g.R.Rack.seen c.next_extent.new.rack) c.loop-fault.vol.store
-    c.next_extent.new.store c.loop-fault.scan c.next_extent.new.scan (Ok v)) c.in-Ok-End.field-0-is
-    (subst (λ s. NextTold s (g.R.Rack.seen c.loop-fault.rack) (g.R.Rack.seen c.next_extent.new.rack) c.loop-fault.vol.store
-    c.next_extent.new.store c.loop-fault.scan c.next_extent.new.scan (Ok c.in-Ok-End.field-0)) inv.sup c.in-Ok-End.ensures.content))
+    scanned_ends (inv.underway chunk span there) (record { store = c.next_extent.new.store; sup = c.loop-fault.vol.sup }) refl c.in-Ok-End.ensures.reads
+    c.in-Ok-End.ensures.others c.in-Ok-End.ensures.ready
+    (next_told c.loop-fault.vol.sup (g.R.Rack.seen c.loop-fault.rack) (g.R.Rack.seen c.next_extent.new.rack)
+    c.loop-fault.vol.store c.next_extent.new.store c.loop-fault.scan c.next_extent.new.scan inv.sup c.in-Ok-End.field-0-is c.in-Ok-End.ensures.content)
 
 pub loop-fault-smaller-in-Ok-Other : goal.loop-fault-smaller-in-Ok-Other
 loop-fault-smaller-in-Ok-Other g c = subst (λ v. ItemRankFalls (rank_of c.loop-fault.scan) (rank_of c.next_extent.new.scan) (Ok v))
-    c.in-Ok-Other.field-0-is c.in-Ok-Other.ensures.nears
+    c.in-Ok-Other.field-0-is c.in-Ok-Other.ensures.rank_falls
 
 pub loop-fault-preserved-in-Ok-Other : goal.loop-fault-preserved-in-Ok-Other
 loop-fault-preserved-in-Ok-Other g c =
     let inv = c.loop-fault.invariant in
-    let after : Volume = record { store = c.next_extent.new.store; sup = c.loop-fault.vol.sup } in
-    let sums = tree_behind c.args.sums in
     record {
       ready = c.in-Ok-Other.ensures.ready;
       room = room_same (without_leaf c.loop-fault.vol.store c.loop-fault.scan) (without_leaf c.next_extent.new.store c.next_extent.new.scan) 5
@@ -81,16 +71,12 @@ loop-fault-preserved-in-Ok-Other g c =
       layout = same_layout c.loop-fault.vol.store c.next_extent.new.store c.loop-fault.scan c.next_extent.new.scan c.in-Ok-Other.ensures.others ∙ inv.layout;
       is_list = inv.is_list;
       kind = inv.kind;
-      underway = λ chunk span there.
-          underway_other c.args.vol.now.sup sums chunk (scene (g.R.Rack.seen c.args.rack.now) c.args.vol.now c.args.gathered.now) c.args.scan.now
-          (scene (g.R.Rack.seen c.loop-fault.rack) c.loop-fault.vol c.loop-fault.gathered) c.loop-fault.scan c.next_extent.new.scan c.loop-fault.end
-          (inv.underway chunk span there)
-          (g.R.Rack.seen c.next_extent.new.rack) after refl c.in-Ok-Other.ensures.reads c.in-Ok-Other.ensures.others c.in-Ok-Other.ensures.ready
-          c.in-Ok-Other.ensures.lo c.in-Ok-Other.ensures.hi
-          (subst (λ v. NextTold c.args.vol.now.sup (g.R.Rack.seen c.loop-fault.rack) (g.R.Rack.seen c.next_extent.new.rack) c.loop-fault.vol.store
-          c.next_extent.new.store c.loop-fault.scan c.next_extent.new.scan (Ok v)) c.in-Ok-Other.field-0-is
-          (subst (λ s. NextTold s (g.R.Rack.seen c.loop-fault.rack) (g.R.Rack.seen c.next_extent.new.rack) c.loop-fault.vol.store
-          c.next_extent.new.store c.loop-fault.scan c.next_extent.new.scan (Ok c.in-Ok-Other.field-0)) inv.sup c.in-Ok-Other.ensures.content));
+      underway =
+          λ chunk span there. underway_other (inv.underway chunk span there) (record { store = c.next_extent.new.store; sup = c.loop-fault.vol.sup }) refl
+          c.in-Ok-Other.ensures.reads c.in-Ok-Other.ensures.others c.in-Ok-Other.ensures.ready c.in-Ok-Other.ensures.lo c.in-Ok-Other.ensures.hi
+          (next_told c.loop-fault.vol.sup (g.R.Rack.seen c.loop-fault.rack) (g.R.Rack.seen c.next_extent.new.rack)
+          c.loop-fault.vol.store c.next_extent.new.store c.loop-fault.scan c.next_extent.new.scan inv.sup c.in-Ok-Other.field-0-is
+          c.in-Ok-Other.ensures.content);
     }
 
 pub returns-in-Ok-Broken-clause-ready : goal.returns-in-Ok-Broken-clause-ready
@@ -99,17 +85,10 @@ returns-in-Ok-Broken-clause-ready g c = c.in-Ok-Broken.ensures.ready
 pub returns-in-Ok-Broken-clause-scanned : goal.returns-in-Ok-Broken-clause-scanned
 returns-in-Ok-Broken-clause-scanned g c chunk span there =
     let inv = c.loop-fault.invariant in
-    let after : Volume = record { store = c.next_extent.new.store; sup = c.loop-fault.vol.sup } in
-    let sums = tree_behind c.args.sums in
-    scanned_broken c.args.vol.now.sup sums chunk (scene (g.R.Rack.seen c.args.rack.now) c.args.vol.now c.args.gathered.now) c.args.scan.now
-    (scene (g.R.Rack.seen c.loop-fault.rack) c.loop-fault.vol c.loop-fault.gathered) c.loop-fault.scan c.next_extent.new.scan c.loop-fault.end
-    (inv.underway chunk span there)
-    (g.R.Rack.seen c.next_extent.new.rack) after refl c.in-Ok-Broken.ensures.reads c.in-Ok-Broken.ensures.others c.in-Ok-Broken.ensures.ready
-    c.in-Ok-Broken.ensures.lo c.in-Ok-Broken.ensures.hi c.in-Ok-Broken.leaf
-    (subst (λ v. NextTold c.args.vol.now.sup (g.R.Rack.seen c.loop-fault.rack) (g.R.Rack.seen c.next_extent.new.rack) c.loop-fault.vol.store
-    c.next_extent.new.store c.loop-fault.scan c.next_extent.new.scan (Ok v)) c.in-Ok-Broken.field-0-is
-    (subst (λ s. NextTold s (g.R.Rack.seen c.loop-fault.rack) (g.R.Rack.seen c.next_extent.new.rack) c.loop-fault.vol.store
-    c.next_extent.new.store c.loop-fault.scan c.next_extent.new.scan (Ok c.in-Ok-Broken.field-0)) inv.sup c.in-Ok-Broken.ensures.content))
+    scanned_broken (inv.underway chunk span there) (record { store = c.next_extent.new.store; sup = c.loop-fault.vol.sup }) refl c.in-Ok-Broken.ensures.reads
+    c.in-Ok-Broken.ensures.others c.in-Ok-Broken.ensures.ready c.in-Ok-Broken.ensures.lo c.in-Ok-Broken.ensures.hi c.in-Ok-Broken.leaf
+    (next_told c.loop-fault.vol.sup (g.R.Rack.seen c.loop-fault.rack) (g.R.Rack.seen c.next_extent.new.rack)
+    c.loop-fault.vol.store c.next_extent.new.store c.loop-fault.scan c.next_extent.new.scan inv.sup c.in-Ok-Broken.field-0-is c.in-Ok-Broken.ensures.content)
 
 pub gather_extent-requires-clause-serves : goal.gather_extent-requires-clause-serves
 gather_extent-requires-clause-serves g c = c.in-Ok-Found.ensures.ready.serves
@@ -131,7 +110,7 @@ gather_extent-requires-clause-span g c = c.requires.span
 
 pub loop-fault-smaller : goal.loop-fault-smaller
 loop-fault-smaller g c = subst (λ v. ItemRankFalls (rank_of c.loop-fault.scan) (rank_of c.next_extent.new.scan) (Ok v)) c.in-Ok-Found.field-0-is
-    c.in-Ok-Found.ensures.nears
+    c.in-Ok-Found.ensures.rank_falls
 
 pub loop-fault-preserved : goal.loop-fault-preserved
 loop-fault-preserved g c =
@@ -150,25 +129,18 @@ loop-fault-preserved g c =
     record {
       ready = ready_same (g.R.Rack.seen c.next_extent.new.rack) (g.R.Rack.seen c.gather_extent.new.rack) c.next_extent.new.store
           c.gather_extent.new.vol.store c.next_extent.new.scan one.volume.store one.serves ready;
-      room = room_same (without_leaf c.next_extent.new.store c.next_extent.new.scan)
-          (without_leaf c.gather_extent.new.vol.store c.next_extent.new.scan) 5
+      room = room_same (without_leaf c.next_extent.new.store c.next_extent.new.scan) (without_leaf c.gather_extent.new.vol.store c.next_extent.new.scan) 5
           (without_same c.next_extent.new.store c.gather_extent.new.vol.store c.next_extent.new.scan one.volume.store)
           (room_same (without_leaf c.loop-fault.vol.store c.loop-fault.scan) (without_leaf c.next_extent.new.store c.next_extent.new.scan) 5 others inv.room);
       sup = one.volume.sup ∙ inv.sup;
       layout = one.volume.store.layout ∙ layout;
       is_list = one.lists.is_list;
       kind = one.lists.kind ∙ inv.kind;
-      underway = λ chunk span there. underway_extent c.args.vol.now.sup sums chunk
-          (scene (g.R.Rack.seen c.args.rack.now) c.args.vol.now c.args.gathered.now) c.args.scan.now
-          (scene (g.R.Rack.seen c.loop-fault.rack) c.loop-fault.vol c.loop-fault.gathered) c.loop-fault.scan c.next_extent.new.scan c.loop-fault.end
-          (inv.underway chunk span there)
-          (g.R.Rack.seen c.next_extent.new.rack) after refl c.in-Ok-Found.ensures.reads others ready c.in-Ok-Found.ensures.lo c.in-Ok-Found.ensures.hi
-          c.in-Ok-Found.extent c.in-Ok-Found.leaf
-          (subst (λ v. NextTold c.args.vol.now.sup (g.R.Rack.seen c.loop-fault.rack) (g.R.Rack.seen c.next_extent.new.rack) c.loop-fault.vol.store
-          c.next_extent.new.store c.loop-fault.scan c.next_extent.new.scan (Ok v)) c.in-Ok-Found.field-0-is
-          (subst (λ s. NextTold s (g.R.Rack.seen c.loop-fault.rack) (g.R.Rack.seen c.next_extent.new.rack) c.loop-fault.vol.store
-          c.next_extent.new.store c.loop-fault.scan c.next_extent.new.scan (Ok c.in-Ok-Found.field-0)) inv.sup c.in-Ok-Found.ensures.content))
-          (scene (g.R.Rack.seen c.gather_extent.new.rack) c.gather_extent.new.vol c.gather_extent.new.gathered) c.in_ok-end-in-Ok-Found.end
+      underway = λ chunk span there. underway_extent (inv.underway chunk span there) after refl c.in-Ok-Found.ensures.reads others ready
+          c.in-Ok-Found.ensures.lo c.in-Ok-Found.ensures.hi c.in-Ok-Found.extent c.in-Ok-Found.leaf
+          (next_told c.loop-fault.vol.sup (g.R.Rack.seen c.loop-fault.rack) (g.R.Rack.seen c.next_extent.new.rack)
+          c.loop-fault.vol.store c.next_extent.new.store c.loop-fault.scan c.next_extent.new.scan inv.sup c.in-Ok-Found.field-0-is
+          c.in-Ok-Found.ensures.content) c.in_ok-end-in-Ok-Found.end
           (subst (λ s. Gathers (extent_met s sums chunk c.loop-fault.end c.in-Ok-Found.leaf (Some c.in-Ok-Found.extent))
           (scene (g.R.Rack.seen c.next_extent.new.rack) after c.loop-fault.gathered)
           (scene (g.R.Rack.seen c.gather_extent.new.rack) c.gather_extent.new.vol c.gather_extent.new.gathered) (Ok c.in_ok-end-in-Ok-Found.end)) inv.sup
@@ -202,16 +174,11 @@ returns-in_err-end-in-Ok-Found-clause-scanned g c chunk span there =
     let layout : c.next_extent.new.store.layout ≡ c.args.vol.now.store.layout =
     same_layout c.loop-fault.vol.store c.next_extent.new.store c.loop-fault.scan c.next_extent.new.scan others ∙ inv.layout in
     let p = err_from_is_err_and c.from_residual.result c.from_residual.ensures.1 in
-    rw (p.1, p.2) (scanned_stops c.args.vol.now.sup sums chunk (scene (g.R.Rack.seen c.args.rack.now) c.args.vol.now c.args.gathered.now) c.args.scan.now
-    (scene (g.R.Rack.seen c.loop-fault.rack) c.loop-fault.vol c.loop-fault.gathered) c.loop-fault.scan c.next_extent.new.scan c.loop-fault.end
-    (inv.underway chunk span there)
-    (g.R.Rack.seen c.next_extent.new.rack) after refl c.in-Ok-Found.ensures.reads others ready c.in-Ok-Found.ensures.lo c.in-Ok-Found.ensures.hi
-    c.in-Ok-Found.extent c.in-Ok-Found.leaf
-    (subst (λ v. NextTold c.args.vol.now.sup (g.R.Rack.seen c.loop-fault.rack) (g.R.Rack.seen c.next_extent.new.rack) c.loop-fault.vol.store
-    c.next_extent.new.store c.loop-fault.scan c.next_extent.new.scan (Ok v)) c.in-Ok-Found.field-0-is
-    (subst (λ s. NextTold s (g.R.Rack.seen c.loop-fault.rack) (g.R.Rack.seen c.next_extent.new.rack) c.loop-fault.vol.store
-    c.next_extent.new.store c.loop-fault.scan c.next_extent.new.scan (Ok c.in-Ok-Found.field-0)) inv.sup c.in-Ok-Found.ensures.content))
-    (scene (g.R.Rack.seen c.gather_extent.new.rack) c.gather_extent.new.vol c.gather_extent.new.gathered) c.in_err-end-in-Ok-Found.field-0.0
+    rw (p.1, p.2) (scanned_stops (inv.underway chunk span there) after refl c.in-Ok-Found.ensures.reads others ready
+    c.in-Ok-Found.ensures.lo c.in-Ok-Found.ensures.hi c.in-Ok-Found.extent c.in-Ok-Found.leaf
+    (next_told c.loop-fault.vol.sup (g.R.Rack.seen c.loop-fault.rack) (g.R.Rack.seen c.next_extent.new.rack)
+    c.loop-fault.vol.store c.next_extent.new.store c.loop-fault.scan c.next_extent.new.scan inv.sup c.in-Ok-Found.field-0-is c.in-Ok-Found.ensures.content)
+    c.in_err-end-in-Ok-Found.field-0.0
     (subst (λ s. Gathers (extent_met s sums chunk c.loop-fault.end c.in-Ok-Found.leaf (Some c.in-Ok-Found.extent))
     (scene (g.R.Rack.seen c.next_extent.new.rack) after c.loop-fault.gathered)
     (scene (g.R.Rack.seen c.gather_extent.new.rack) c.gather_extent.new.vol c.gather_extent.new.gathered) (Err c.in_err-end-in-Ok-Found.field-0.0))

@@ -1,12 +1,9 @@
 use Rattle.std.proofs.Common.{◌≡◌, ◌≤◌}
 use Rattle.std.specs.Prelude.{Contains}
-use Rattle.btr_chunk.specs.declared.chunk.Chunk.{Chunk}
+use Rattle.btr_scrub.proofs.Common.{Chunk, IsList, scene, tree_behind, without_leaf}
 use Rattle.btr_read.specs.Store.{free_count}
-use Rattle.btr_walk.specs.ScanEnds.{IsScanReady, rank_of, without_leaf}
-use Rattle.btr_files.specs.Sums.{tree_behind}
+use Rattle.btr_walk.specs.ScanEnds.{IsScanReady, rank_of}
 use Rattle.btr_scrub.specs.Extents.{span_of}
-use Rattle.btr_scrub.specs.Gathering.{scene}
-use Rattle.btr_scrub.specs.Listed.{IsList}
 use Rattle.btr_scrub.specs.Scanning.{Underway}
 use Rattle.btr_scrub.proofs.collecting.gather_items.Given as goal
 

@@ -1,10 +1,8 @@
 use Rattle.std.proofs.Common.{List, Ok, ap, subst, ◌∙◌}
-use Rattle.btr_read.specs.declared.want.Want.{Want}
+use Rattle.btr_scrub.proofs.Common.{Want, drawn, unread_by}
 use Rattle.btr_walk.specs.Going.{IsOn}
-use Rattle.btr_walk.specs.Reading.{unread_by}
 use Rattle.btr_walk.specs.ScanEnds.{IsNextOn}
 use Rattle.btr_walk.specs.Showing.{item_of}
-use Rattle.btr_walk.proofs.Joined.{drawn}
 use Rattle.btr_scrub.specs.Scanning.{NextExtentBy}
 use Rattle.btr_scrub.proofs.Underways.{next_by}
 use Rattle.btr_scrub.proofs.collecting.next_extent.Goals as goal
@@ -25,5 +23,4 @@ returns-in-Some-clause-content g c =
       item = item_of c.in-Some.found;
       gives = record { past = gives.past; is = gives.is; on = gives.on };
       says = c.extent_in.ensures;
-    }))
-    c.next.follows.holds-at-none.content
+    })) c.next.follows.holds-at-none.content

@@ -1,9 +1,8 @@
 use Rattle.std.proofs.Common.{sym, ◌∙◌, arith}
-use Rattle.std.proofs.lemmas.Option.{slice_get_within}
+use Rattle.btr_scrub.proofs.Common.{flagged, list_any-false, list_any-true, slice_get_within}
 use Rattle.btr_chunk.specs.declared.stripe.Stripe.{Stripe}
-use Rattle.btr_scrub_copies.specs.Fresh.{flagged, is_behind}
+use Rattle.btr_scrub_copies.specs.Fresh.{is_behind}
 use Rattle.btr_scrub.proofs.copied.has_behind.Goals as goal
-use Rattle.btr_chunk.proofs.Searches.{list_any-true, list_any-false}
 
 pub returns-then-is_behind : goal.returns-then-is_behind
 returns-then-is_behind c =

@@ -1,25 +1,8 @@
 use Rattle.std.proofs.Common.{◌≡◌, Bool, List, Result, ◌+◌, ◌∷◌, ◌<◌, true, false, not, Ok, Some, IsSome, IsSomeAnd, slice_get, sym, ap, ◌∙◌, subst, refl}
-use Rattle.std.proofs.lemmas.Bool.{and_parts, not-true}
-use Rattle.std.proofs.lemmas.Option.{same_Some}
-use Rattle.btr_chunk.specs.Chunk.{mirrors}
-use Rattle.btr_chunk.specs.declared.chunk.Chunk.{Chunk}
-use Rattle.btr_read.specs.Candidates.{Target}
-use Rattle.btr_read.specs.Fate.{is_plain, sought}
-use Rattle.btr_read.specs.Layout.{Layout}
-use Rattle.btr_read.specs.Want.{addr_of}
-use Rattle.btr_read.proofs.Serving.{serving}
+use Rattle.btr_scrub.proofs.Common.{AreApart, BeginsBehind, Chunk, Failing, Images, IsPastChunk, Layout, MendFault, Scrubs, Seen, Tally, Target, Want}
+use Rattle.btr_scrub.proofs.Common.{addr_of, alone, and_parts, count_site, flagged, has_behind, is_plain, mending_writes, mirrors, not-true, same_Some}
+use Rattle.btr_scrub.proofs.Common.{same_loans_then, serving, sites_count, sites_writes, sought, targets}
 use Rattle.btr_scrub_copies.specs.Mending.{IsCopied}
-use Rattle.btr_scrub_copies.proofs.Copied.{same_loans_then}
-use Rattle.btr_scrub_row.specs.Wanted.{mending_writes}
-use Rattle.btr_scrub.specs.WrittenRanges.{alone}
-use Rattle.btr_scrub.specs.Judged.{has_behind}
-use Rattle.btr_scrub.specs.Order.{AreApart, targets}
-use Rattle.btr_scrub_copies.specs.Fresh.{Failing, flagged}
-use Rattle.btr_scrub_copies.specs.declared.mended.MendFault.{MendFault}
-use Rattle.btr_rack.specs.Rack.{Seen}
-use Rattle.btr_read.specs.declared.want.Want.{Want}
-use Rattle.btr_scrub.specs.declared.tally.Tally.{Tally}
-use Rattle.btr_scrub.specs.Scrubbing.{BeginsBehind, IsPastChunk, Scrubs, count_site, sites_count, sites_writes}
 use Rattle.btr_scrub.proofs.Blockwise.{chunk_mended, have_lengths, next_block, next_copied, past_chunk, underway_cut, underway_first, underway_more}
 use Rattle.btr_scrub.proofs.Passing.{passed_if, settled}
 use Rattle.btr_scrub.proofs.Scrubbing.{scrubs_passed}
@@ -38,18 +21,15 @@ site_scrubs {r = r} fails layout l write chunk want t m n a b u w same is mine o
     (λ images x. count_site fails images write x t) m n a b u w r) same one t is)
 
 pub loop-want-init : goal.loop-want-init
-loop-want-init g c =
-    let layout = c.args.store.now.layout in
-    let a = g.R.Rack.seen c.args.rack.now in
-    let p = c.args.progress.now in
-    record {
-      ready = c.requires.ready;
-      loans = record { layout = refl; loans = refl };
-      underway = λ chunk there.
-          let is = subst (λ o. IsSomeAnd o (λ chunk. IsSome (mirrors chunk) × AreApart layout chunk.start c.args.blocks.now)) there c.requires.chunk in
-          underway_first (flagged c.args.task.how.failing.now) layout c.args.task.how.write c.requires.ready.table
-          (serving a c.args.store.now c.requires.ready.serves).own_slots c.args.task.number chunk there is.0 c.args.blocks.now p.marks.items a p.tally is.1;
-    }
+loop-want-init g c = record {
+  ready = c.requires.ready;
+  loans = record { layout = refl; loans = refl };
+  underway = λ chunk there.
+      let is = subst (λ o. IsSomeAnd o (λ chunk. IsSome (mirrors chunk) × AreApart c.args.store.now.layout chunk.start c.args.blocks.now)) there
+      c.requires.chunk in
+      underway_first (flagged c.args.task.how.failing.now) c.args.store.now.layout c.args.task.how.write chunk c.args.blocks.now
+      c.args.progress.now.marks.items (g.R.Rack.seen c.args.rack.now) c.args.progress.now.tally is.1;
+}
 
 pub mend_site-requires-clause-copied : goal.mend_site-requires-clause-copied
 mend_site-requires-clause-copied g c =
@@ -71,94 +51,67 @@ loop-want-preserved g c = record {
   loans = same_loans_then c.args.store.now c.loop-want.store c.mend_site.new.store c.loop-want.invariant.loans c.in_ok-mend_site.ensures.loans;
   underway = λ chunk there.
       let layout = c.args.store.now.layout in
-      let fails = flagged c.args.task.how.failing.now in
-      let write = c.args.task.how.write in
-      let wants = c.args.blocks.now in
-      let p = c.args.progress.now in
-      let q = c.loop-want.progress in
-      let a = g.R.Rack.seen c.args.rack.now in
-      let b = g.R.Rack.seen c.loop-want.rack in
-      let was = serving a c.args.store.now c.requires.ready.serves in
-      let is = subst (λ o. IsSomeAnd o (λ chunk. IsSome (mirrors chunk) × AreApart layout chunk.start wants)) there c.requires.chunk in
+      let is = subst (λ o. IsSomeAnd o (λ chunk. IsSome (mirrors chunk) × AreApart c.args.store.now.layout chunk.start c.args.blocks.now)) there
+      c.requires.chunk in
       let same : c.at-chunk.result.now ≡ chunk = same_Some c.at-chunk.result.now chunk
       (sym (ap (λ cs. slice_get cs c.args.task.number) (sym c.chunks.ensures) ∙ c.at-chunk.ensures.chunk) ∙ there) in
       let h = c.loop-want.invariant.underway chunk there in
-      let new = c.mend_site.new.progress in
-      let z = g.R.Rack.seen c.mend_site.new.rack in
-      let left : c.loop-want.blocks ≡ c.in-Some.want ∷ c.next_below.new.blocks = c.in-Some.ensures.0 in
       let next = next_block layout c.requires.ready.table c.args.task.number chunk there h.end c.in-Some.want c.next_below.new.blocks h.from
-      (subst (AreApart layout h.end) left h.apart) (subst (λ (k : Chunk). addr_of c.in-Some.want < k.start + k.length) same c.in-Some.ensures.1) in
-      let one = site_scrubs fails layout c.loop-want.store.layout write chunk c.in-Some.want next.target q.marks.items new.marks.items b z q.tally new.tally
-      c.loop-want.invariant.loans.layout next.is_sought next.mine c.in_ok-mend_site.ensures.scrubs in
-      let more = underway_more fails layout write c.requires.ready.table was.own_slots c.args.task.number chunk there is.0 wants p.marks.items a p.tally
-      c.loop-want.blocks q.marks.items b q.tally h
-      (λ images held. have_lengths a layout images (g.met.R.Rack.sound c.args.rack.now) was.are_open held) c.in-Some.want c.next_below.new.blocks left
-      next new.marks.items z new.tally one in
+      (subst (AreApart layout h.end) c.in-Some.ensures.0 h.apart) (subst (λ (k : Chunk). addr_of c.in-Some.want < k.start + k.length) same
+      c.in-Some.ensures.1) in
+      let was = serving (g.R.Rack.seen c.args.rack.now) c.args.store.now c.requires.ready.serves in
+      let lengths = λ (images : Images) (held : (g.R.Rack.seen c.args.rack.now).held ≡ Some images).
+      have_lengths (g.R.Rack.seen c.args.rack.now) layout images (g.met.R.Rack.sound c.args.rack.now) was.are_open held in
+      let one = site_scrubs (flagged c.args.task.how.failing.now) layout c.loop-want.store.layout c.args.task.how.write chunk c.in-Some.want next.target
+      c.loop-want.progress.marks.items c.mend_site.new.progress.marks.items (g.R.Rack.seen c.loop-want.rack) (g.R.Rack.seen c.mend_site.new.rack)
+      c.loop-want.progress.tally c.mend_site.new.progress.tally c.loop-want.invariant.loans.layout next.is_sought next.mine c.in_ok-mend_site.ensures.scrubs in
+      let fails = flagged c.args.task.how.failing.now in
+      let write = c.args.task.how.write in
       let n = some_of (mirrors chunk) is.0 in
       let inert : not c.has_behind-behind.result ≡ true → has_behind layout.devices fails chunk ≡ false =
       λ e. ap (has_behind layout.devices fails) (sym same) ∙ sym c.has_behind-behind.ensures ∙ not-true c.has_behind-behind.result e in
-      passed_if fails layout write c.requires.ready.table c.args.task.number chunk there n.0 n.1 c.is_inert.result wants c.next_below.new.blocks
-      c.pass_if.new.blocks (c.at-chunk.result.now.start + c.at-chunk.result.now.length) p.marks.items new.marks.items a z p.tally new.tally
+      passed_if (underway_more h c.requires.ready.table c.args.task.number there was.own_slots is.0 lengths c.in-Some.ensures.0 next one)
+      c.requires.ready.table c.args.task.number there n.0 n.1 was.own_slots lengths c.is_inert.result c.pass_if.new.blocks
+      (c.at-chunk.result.now.start + c.at-chunk.result.now.length)
       (λ e.
       let both = and_parts (is_plain c.in-Some.want) (not c.has_behind-behind.result) (sym c.is_inert.ensures ∙ e) in (
         inert both.1,
         settled fails layout write c.requires.ready.table c.args.task.number chunk there n.0 n.1 (inert both.1) h.end c.in-Some.want
             c.next_below.new.blocks next both.0 (sites_writes fails (targets layout h.past)) (sites_count fails write (targets layout h.past))
-            p.marks.items q.marks.items new.marks.items a b z p.tally q.tally new.tally h.done one,
-      ))
-      (ap (λ (k : Chunk). k.start + k.length) same) c.pass_if.ensures more;
+            c.args.progress.now.marks.items c.loop-want.progress.marks.items c.mend_site.new.progress.marks.items (g.R.Rack.seen c.args.rack.now)
+            (g.R.Rack.seen c.loop-want.rack) (g.R.Rack.seen c.mend_site.new.rack) c.args.progress.now.tally c.loop-want.progress.tally
+            c.mend_site.new.progress.tally h.done one,
+      )) (ap (λ (k : Chunk). k.start + k.length) same) c.pass_if.ensures;
 }
 
 pub returns-in_err-mend_site-clause-scrubs : goal.returns-in_err-mend_site-clause-scrubs
 returns-in_err-mend_site-clause-scrubs g c chunk there =
     let layout = c.args.store.now.layout in
-    let fails = flagged c.args.task.how.failing.now in
-    let write = c.args.task.how.write in
-    let wants = c.args.blocks.now in
-    let p = c.args.progress.now in
-    let q = c.loop-want.progress in
-    let a = g.R.Rack.seen c.args.rack.now in
-    let b = g.R.Rack.seen c.loop-want.rack in
-    let was = serving a c.args.store.now c.requires.ready.serves in
-    let is = subst (λ o. IsSomeAnd o (λ chunk. IsSome (mirrors chunk) × AreApart layout chunk.start wants)) there c.requires.chunk in
+    let is = subst (λ o. IsSomeAnd o (λ chunk. IsSome (mirrors chunk) × AreApart c.args.store.now.layout chunk.start c.args.blocks.now)) there
+    c.requires.chunk in
     let same : c.at-chunk.result.now ≡ chunk = same_Some c.at-chunk.result.now chunk
     (sym (ap (λ cs. slice_get cs c.args.task.number) (sym c.chunks.ensures) ∙ c.at-chunk.ensures.chunk) ∙ there) in
     let h = c.loop-want.invariant.underway chunk there in
-    let new = c.mend_site.new.progress in
-    let z = g.R.Rack.seen c.mend_site.new.rack in
-    let left : c.loop-want.blocks ≡ c.in-Some.want ∷ c.next_below.new.blocks = c.in-Some.ensures.0 in
     let next = next_block layout c.requires.ready.table c.args.task.number chunk there h.end c.in-Some.want c.next_below.new.blocks h.from
-    (subst (AreApart layout h.end) left h.apart) (subst (λ (k : Chunk). addr_of c.in-Some.want < k.start + k.length) same c.in-Some.ensures.1) in
-    scrubs_passed c.from_residual.ensures.1
-    (underway_cut fails layout write c.requires.ready.table was.own_slots c.args.task.number chunk there is.0 wants p.marks.items a p.tally
-    c.loop-want.blocks q.marks.items b q.tally h
-    (λ images held. have_lengths a layout images (g.met.R.Rack.sound c.args.rack.now) was.are_open held) c.in-Some.want c.next_below.new.blocks left
-    next new.marks.items z new.tally c.in_err-mend_site.field-0.0
-    (site_scrubs fails layout c.loop-want.store.layout write chunk c.in-Some.want next.target q.marks.items new.marks.items b z q.tally new.tally
-    c.loop-want.invariant.loans.layout next.is_sought next.mine c.in_err-mend_site.ensures.scrubs))
+    (subst (AreApart layout h.end) c.in-Some.ensures.0 h.apart) (subst (λ (k : Chunk). addr_of c.in-Some.want < k.start + k.length) same c.in-Some.ensures.1) in
+    let was = serving (g.R.Rack.seen c.args.rack.now) c.args.store.now c.requires.ready.serves in
+    let lengths = λ (images : Images) (held : (g.R.Rack.seen c.args.rack.now).held ≡ Some images).
+    have_lengths (g.R.Rack.seen c.args.rack.now) layout images (g.met.R.Rack.sound c.args.rack.now) was.are_open held in
+    let one = site_scrubs (flagged c.args.task.how.failing.now) layout c.loop-want.store.layout c.args.task.how.write chunk c.in-Some.want next.target
+    c.loop-want.progress.marks.items c.mend_site.new.progress.marks.items (g.R.Rack.seen c.loop-want.rack) (g.R.Rack.seen c.mend_site.new.rack)
+    c.loop-want.progress.tally c.mend_site.new.progress.tally c.loop-want.invariant.loans.layout next.is_sought next.mine c.in_err-mend_site.ensures.scrubs in
+    scrubs_passed c.from_residual.ensures.1 (underway_cut h c.requires.ready.table c.args.task.number there was.own_slots is.0 lengths c.in-Some.ensures.0
+    next c.in_err-mend_site.field-0.0 one)
 
 pub returns-clause-past : goal.returns-clause-past
 returns-clause-past g c chunk there =
-    let layout = c.args.store.now.layout in
-    let p = c.args.progress.now in
-    let q = c.loop-want.progress in
-    let is = subst (λ o. IsSomeAnd o (λ chunk. IsSome (mirrors chunk) × AreApart layout chunk.start c.args.blocks.now)) there c.requires.chunk in
     let same : c.at-chunk.result.now ≡ chunk = same_Some c.at-chunk.result.now chunk
     (sym (ap (λ cs. slice_get cs c.args.task.number) (sym c.chunks.ensures) ∙ c.at-chunk.ensures.chunk) ∙ there) in
-    subst (IsPastChunk layout chunk c.args.blocks.now) (sym c.in_default.ensures.0)
-    (past_chunk (flagged c.args.task.how.failing.now) layout c.args.task.how.write c.requires.ready.table
-    (serving (g.R.Rack.seen c.args.rack.now) c.args.store.now c.requires.ready.serves).own_slots c.args.task.number chunk there is.0 c.args.blocks.now
-    p.marks.items (g.R.Rack.seen c.args.rack.now) p.tally c.loop-want.blocks q.marks.items (g.R.Rack.seen c.loop-want.rack) q.tally
-    (c.loop-want.invariant.underway chunk there) (subst (λ (k : Chunk). BeginsBehind (k.start + k.length) c.loop-want.blocks) same c.in_default.ensures.1))
+    subst (IsPastChunk c.args.store.now.layout chunk c.args.blocks.now) (sym c.in_default.ensures.0)
+    (past_chunk (c.loop-want.invariant.underway chunk there)
+    (subst (λ (k : Chunk). BeginsBehind (k.start + k.length) c.loop-want.blocks) same c.in_default.ensures.1))
 
 pub returns-clause-scrubs : goal.returns-clause-scrubs
 returns-clause-scrubs g c chunk there =
-    let layout = c.args.store.now.layout in
-    let p = c.args.progress.now in
-    let q = c.loop-want.progress in
-    let is = subst (λ o. IsSomeAnd o (λ chunk. IsSome (mirrors chunk) × AreApart layout chunk.start c.args.blocks.now)) there c.requires.chunk in
-    chunk_mended (flagged c.args.task.how.failing.now) layout c.args.task.how.write c.requires.ready.table
-    (serving (g.R.Rack.seen c.args.rack.now) c.args.store.now c.requires.ready.serves).own_slots c.args.task.number chunk there is.0 c.args.blocks.now
-    p.marks.items (g.R.Rack.seen c.args.rack.now) p.tally c.loop-want.blocks q.marks.items (g.R.Rack.seen c.loop-want.rack) q.tally
-    (c.loop-want.invariant.underway chunk there) c.loop-want.blocks
-    (subst (λ ws. IsPastChunk layout chunk c.args.blocks.now ws) c.in_default.ensures.0 (returns-clause-past g c chunk there)) refl
+    chunk_mended (c.loop-want.invariant.underway chunk there) c.requires.ready.table c.args.task.number there c.loop-want.blocks
+    (subst (λ ws. IsPastChunk c.args.store.now.layout chunk c.args.blocks.now ws) c.in_default.ensures.0 (returns-clause-past g c chunk there)) refl

@@ -1,16 +1,8 @@
-use Rattle.std.proofs.Common.{◌≡◌, Bool, true, false, cond, length, drop, Ok, Err, refl, sym, ap, ◌∙◌}
-use Rattle.std.proofs.lemmas.List.{take_at}
-use Rattle.btr_read.specs.Fate.{is_plain}
-use Rattle.btr_read.proofs.Fates.{sought_of}
+use Rattle.std.proofs.Common.{◌≡◌, Bool, true, false, cond, length, drop, refl, sym, ap, ◌∙◌}
+use Rattle.btr_scrub.proofs.Common.{Images, Mended, Tally, alone, counted, counted_plain, flagged, freshened, is_plain, mended_of, mending_writes, sought_of}
+use Rattle.btr_scrub.proofs.Common.{take_at}
 use Rattle.btr_scrub_copies.proofs.Doing.{only_slots}
-use Rattle.btr_scrub_copies.specs.Fresh.{flagged, freshened}
-use Rattle.btr_scrub_copies.specs.Mending.{mended_of}
-use Rattle.btr_scrub_copies.specs.Writes.{Images}
-use Rattle.btr_scrub_copies.specs.declared.mended.Mended.{Mended}
-use Rattle.btr_scrub_row.specs.Wanted.{mending_writes}
-use Rattle.btr_scrub.specs.WrittenRanges.{alone}
-use Rattle.btr_scrub.specs.Scrubbing.{count_site, counted, counted_plain, counted_site}
-use Rattle.btr_scrub.specs.declared.tally.Tally.{Tally}
+use Rattle.btr_scrub.specs.Scrubbing.{counted_site}
 use Rattle.btr_scrub.proofs.Positions.{copy_in_stripe, is_sought}
 use Rattle.btr_scrub.proofs.Scrubbing.{can_mend_then, scrubs_as, scrubs_not, scrubs_one, scrubs_passed}
 use Rattle.btr_scrub.proofs.copied.mend_site.Goals as goal
@@ -42,15 +34,12 @@ returns-clause-scrubs g c t e =
     let plain : is_plain t.want ≡ is_plain c.args.want.now = ap is_plain (sought_of layout c.args.want.now t e).want_is in
     let count = λ (images : Images). cond (is_plain t.want) (freshened images fails t write) (mended_of images t write) in
     rw (take_at marks (drop (length marks) old.items) old.len (c.mend_want.auto.marks ∙ c.deref_mut.ensures.len), sym c.deref_mut.ensures.value)
-    (scrubs_as (alone layout t.chunk) write (λ images. mending_writes images fails t) (λ images. mending_writes images fails t)
-    (λ images tally. counted_site (is_plain t.want) tally (count images)) (λ images tally. count_site fails images write tally t)
-    c.deref_mut.result.now marks (g.R.Rack.seen c.args.rack.now) (g.R.Rack.seen c.mend_want.new.rack) tally c.counted_site-progress.result (Ok tt)
-    (λ images held. (refl, by_counts (is_plain t.want) tally (freshened images fails t write) (mended_of images t write)))
-    (scrubs_one (alone layout t.chunk) write t (λ images. mending_writes images fails t) count (counted_site (is_plain t.want))
-    c.deref_mut.result.now marks (g.R.Rack.seen c.args.rack.now) (g.R.Rack.seen c.mend_want.new.rack)
+    (scrubs_as (alone layout t.chunk) write (scrubs_one (alone layout t.chunk) write t (λ images. mending_writes images fails t) count
+    (counted_site (is_plain t.want)) c.deref_mut.result.now marks (g.R.Rack.seen c.args.rack.now) (g.R.Rack.seen c.mend_want.new.rack)
     (λ range of. copy_in_stripe layout t range c.requires.ready.table (is_sought layout c.args.want.now t e) of)
     tally c.counted_site-progress.result c.in_ok-mended.mended h.does h.counts h.unwritten
-    (c.counted_site-progress.ensures ∙ ap (λ b. counted_site b tally c.in_ok-mended.mended) (sym plain))))
+    (c.counted_site-progress.ensures ∙ ap (λ b. counted_site b tally c.in_ok-mended.mended) (sym plain)))
+    (λ images held. (refl, by_counts (is_plain t.want) tally (freshened images fails t write) (mended_of images t write))))
 
 pub returns-in_err-mended-clause-ready : goal.returns-in_err-mended-clause-ready
 returns-in_err-mended-clause-ready g c =
@@ -74,11 +63,10 @@ returns-in_err-mended-clause-scrubs g c t e =
     let count = λ (images : Images). cond (is_plain t.want) (freshened images fails t write) (mended_of images t write) in
     rw (take_at marks (drop (length marks) old.items) old.len (c.mend_want.auto.marks ∙ c.deref_mut.ensures.len), sym c.deref_mut.ensures.value)
     (scrubs_passed c.from_residual.ensures.1
-    (scrubs_as (alone layout t.chunk) write (λ images. mending_writes images fails t) (λ images. mending_writes images fails t)
-    (λ images tally. counted_site (is_plain t.want) tally (count images)) (λ images tally. count_site fails images write tally t)
-    c.deref_mut.result.now marks (g.R.Rack.seen c.args.rack.now) (g.R.Rack.seen c.mend_want.new.rack) tally tally (Err c.in_err-mended.field-0.0)
-    (λ images held. (refl, by_counts (is_plain t.want) tally (freshened images fails t write) (mended_of images t write)))
-    (scrubs_not (alone layout t.chunk) write t (λ images. mending_writes images fails t) count (counted_site (is_plain t.want))
-    c.deref_mut.result.now marks (g.R.Rack.seen c.args.rack.now) (g.R.Rack.seen c.mend_want.new.rack)
+    (scrubs_as (alone layout t.chunk) write (scrubs_not (alone layout t.chunk) write t (λ images. mending_writes images fails t) count
+    (counted_site (is_plain t.want)) c.deref_mut.result.now marks (g.R.Rack.seen c.args.rack.now) (g.R.Rack.seen c.mend_want.new.rack)
     (λ range of. copy_in_stripe layout t range c.requires.ready.table (is_sought layout c.args.want.now t e) of)
-    tally c.in_err-mended.field-0.0 h.does h.unwritten)))
+    tally c.in_err-mended.field-0.0 h.does h.unwritten) (λ images held. (
+      refl,
+      by_counts (is_plain t.want) tally (freshened images fails t write) (mended_of images t write),
+    ))))

@@ -1,6 +1,5 @@
 use Rattle.std.proofs.Common.{sym, ap, ◌∙◌}
-use Rattle.btr_read.specs.Fate.{is_plain}
-use Rattle.btr_read.proofs.Fates.{sought_of}
+use Rattle.btr_scrub.proofs.Common.{is_plain, sought_of}
 use Rattle.btr_scrub.proofs.copied.mend_want.Goals as goal
 
 pub returns-then-is_plain-clause-mends : goal.returns-then-is_plain-clause-mends

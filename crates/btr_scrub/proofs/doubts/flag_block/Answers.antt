@@ -1,6 +1,6 @@
 use Rattle.std.proofs.Common.{ap, sym, ◌∙◌}
 use Rattle.btr_chunk.specs.declared.place.Part.TheVariants.{Slice}
-use Rattle.btr_scrub.specs.Doubts.{fails_at, fails_on}
+use Rattle.btr_scrub.proofs.Common.{fails_at, fails_on}
 use Rattle.btr_scrub.proofs.Doubting.{fails_slice, flags_as, flags_plain, own_slice}
 use Rattle.btr_scrub.proofs.doubts.flag_block.Goals as goal
 

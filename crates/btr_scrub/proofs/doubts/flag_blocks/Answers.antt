@@ -1,13 +1,8 @@
 use Rattle.std.proofs.Common.{◌-◌, ◌^◌, IfSome, Err, refl, subst, arith}
-use Rattle.std.proofs.lemmas.Result.{err_from_is_err_and}
-use Rattle.btr_rack.proofs.Reading.{reads_more}
-use Rattle.btr_read.specs.Fate.{sought}
+use Rattle.btr_scrub.proofs.Common.{Flags, LiesInStripe, err_from_is_err_and, fails_on, reads_more, same_held, sought}
 use Rattle.btr_read.proofs.Keeping.{none_more}
-use Rattle.btr_read.proofs.ReadsOn.{open_still, same_held, same_sure}
+use Rattle.btr_read.proofs.ReadsOn.{open_still, same_sure}
 use Rattle.btr_scrub_copies.proofs.Doing.{account_then}
-use Rattle.btr_scrub.specs.Doubts.{fails_on}
-use Rattle.btr_scrub.specs.Judged.{Flags}
-use Rattle.btr_scrub.specs.WrittenRanges.{LiesInStripe}
 use Rattle.btr_scrub.proofs.Doubting.{looked_done, looked_first, looked_more, looked_passed, looks_next, parts_in_stripe, the_sought}
 use Rattle.btr_scrub.proofs.Positions.{is_sought}
 use Rattle.btr_scrub.proofs.doubts.flag_blocks.Goals as goal

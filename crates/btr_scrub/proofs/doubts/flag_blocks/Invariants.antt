@@ -1,5 +1,5 @@
 use Rattle.std.proofs.Common.{length}
-use Rattle.btr_rack.specs.Rack.{NoneFailed, OnlyReads}
+use Rattle.btr_scrub.proofs.Common.{NoneFailed, OnlyReads}
 use Rattle.btr_scrub.specs.Judged.{HasRoom}
 use Rattle.btr_scrub.proofs.Doubting.{LookedAt}
 use Rattle.btr_scrub.proofs.doubts.flag_blocks.Given as goal

@@ -1,16 +1,11 @@
 use Rattle.std.proofs.Common.{◌+◌, ◌||◌, false, get_or, IfSome, Err, take, refl, sym, ap, ◌∙◌, subst, arith, ◌≡◌, ℕ, Bool, ◌<◌}
-use Rattle.std.proofs.lemmas.Result.{err_from_is_err_and}
+use Rattle.btr_scrub.proofs.Common.{Flags, Mirror, err_from_is_err_and, fails_at, fails_on, list_any, range_with_len, reads_more, same_held, sought}
 use Rattle.std.proofs.lemmas.List.{take_all}
 use Rattle.std.proofs.lemmas.List.FromFn.{length-range_with_len, get_or-range_with_len}
-use Rattle.std.specs.List.{list_any, range_with_len}
-use Rattle.btr_chunk.specs.declared.place.Part.TheVariants.{Mirror}
-use Rattle.btr_rack.proofs.Reading.{reads_more}
-use Rattle.btr_read.specs.Fate.{sought}
 use Rattle.btr_read.proofs.Keeping.{none_more}
-use Rattle.btr_read.proofs.ReadsOn.{open_still, same_held, same_sure}
+use Rattle.btr_read.proofs.ReadsOn.{open_still, same_sure}
 use Rattle.btr_scrub_copies.proofs.Doing.{account_then}
-use Rattle.btr_scrub.specs.Doubts.{fails_at, fails_on}
-use Rattle.btr_scrub.specs.Judged.{Flags, IsOfPart}
+use Rattle.btr_scrub.specs.Judged.{IsOfPart}
 use Rattle.btr_scrub.proofs.Doubting.{all_of, both_of, fails_copies, flags_none, flags_then, own_copy, some_of, the_sought}
 use Rattle.btr_scrub.proofs.doubts.flag_copies.Goals as goal
 use Rattle.std.proofs.lemmas.List.Folds.{list_any_more}
@@ -58,12 +53,10 @@ loop-mirror-preserved g c =
           both_of a.held (λ images. Flags old (λ slot. list_any (λ k. fails_at images t slot (Mirror k)) (take m (range_with_len 0 c.args.copies))) mid)
           (λ images. Flags mid (λ slot. fails_at images t slot (Mirror m)) new)
           (λ images. Flags old (λ slot. list_any (λ k. fails_at images t slot (Mirror k)) (take (m + 1) (range_with_len 0 c.args.copies))) new)
-          (λ images one two. flags_then old mid new
-          (λ slot. list_any (λ k. fails_at images t slot (Mirror k)) (take m (range_with_len 0 c.args.copies)))
+          (λ images one two. flags_then old mid new (λ slot. list_any (λ k. fails_at images t slot (Mirror k)) (take m (range_with_len 0 c.args.copies)))
           (λ slot. fails_at images t slot (Mirror m))
           (λ slot. list_any (λ k. fails_at images t slot (Mirror k)) (take (m + 1) (range_with_len 0 c.args.copies))) one two
-          (λ slot. sym (slice_more (λ k. fails_at images t slot (Mirror k)) c.args.copies m c.loop-mirror-test.true)))
-          (c.loop-mirror.invariant.flags t e)
+          (λ slot. sym (slice_more (λ k. fails_at images t slot (Mirror k)) c.args.copies m c.loop-mirror-test.true))) (c.loop-mirror.invariant.flags t e)
           (subst (λ held. IfSome held (λ images. Flags mid (λ slot. fails_at images t slot (Mirror m)) new))
           (same_held c.loop-mirror.invariant.reads) (c.in_ok-flag_part.ensures.flags t e));
     }
@@ -89,5 +82,4 @@ returns-clause-flags g c t e =
     (λ images h slot. h slot ∙ ap (λ b. get_or old slot false || b)
     (ap (list_any (λ k. fails_at images t slot (Mirror k)))
     (take_all c.loop-mirror.mirror (range_with_len 0 n) (omega (arith, length-range_with_len 0 n, c.loop-mirror-test.false)))
-    ∙ fails_copies images t n slot (c.requires.copies t e)))
-    (c.loop-mirror.invariant.flags t e)
+    ∙ fails_copies images t n slot (c.requires.copies t e))) (c.loop-mirror.invariant.flags t e)

@@ -1,11 +1,6 @@
 use Rattle.std.proofs.Common.{◌≡◌, IfSome, Ok, take}
-use Rattle.std.specs.List.{list_any, range_with_len}
-use Rattle.btr_chunk.specs.declared.place.Part.TheVariants.{Mirror}
-use Rattle.btr_rack.specs.Rack.{NoneFailed, OnlyReads}
-use Rattle.btr_read.specs.Candidates.{Target}
-use Rattle.btr_read.specs.Fate.{sought}
-use Rattle.btr_scrub.specs.Doubts.{fails_at}
-use Rattle.btr_scrub.specs.Judged.{Flags, HasRoom}
+use Rattle.btr_scrub.proofs.Common.{Flags, Mirror, NoneFailed, OnlyReads, Target, fails_at, list_any, range_with_len, sought}
+use Rattle.btr_scrub.specs.Judged.{HasRoom}
 use Rattle.btr_scrub.proofs.doubts.flag_copies.Given as goal
 
 abbrev pub invariant-loop-mirror : goal.invariant-loop-mirror

@@ -1,6 +1,5 @@
 use Rattle.std.proofs.Common.{◌≤◌, List, Bool, length, IfSome, sym, subst, arith}
-use Rattle.btr_scrub.specs.Doubts.{fails_at}
-use Rattle.btr_scrub.specs.Judged.{Flags}
+use Rattle.btr_scrub.proofs.Common.{Flags, fails_at}
 use Rattle.btr_scrub.proofs.Doubting.{flags_bad, flags_good, read_part, want_fits}
 use Rattle.btr_scrub.proofs.doubts.flag_part.Goals as goal
 
@@ -37,8 +36,7 @@ flag-requires g c =
 pub returns-then-good-clause-flags : goal.returns-then-good-clause-flags
 returns-then-good-clause-flags g c t e =
     flags_good c.args.store.now.layout c.args.want.now t c.args.part c.in-Some.range
-    (g.R.Rack.seen c.args.rack.now).held c.args.probe.now.failing.items c.in_ok-good.good
-    e (c.in-Some.ensures t e) c.in_ok-good.ensures.passes c.if-good.true
+    (g.R.Rack.seen c.args.rack.now).held c.args.probe.now.failing.items c.in_ok-good.good e (c.in-Some.ensures t e) c.in_ok-good.ensures.passes c.if-good.true
 
 pub returns-clause-flags : goal.returns-clause-flags
 returns-clause-flags g c t e =

@@ -1,9 +1,8 @@
 use Rattle.std.proofs.Common.{sym, ◌∙◌, arith}
-use Rattle.std.proofs.lemmas.Option.{slice_get_within}
+use Rattle.btr_scrub.proofs.Common.{list_any-false, list_any-true, slice_get_within}
 use Rattle.btr_chunk.specs.declared.stripe.Stripe.{Stripe}
 use Rattle.btr_scrub.specs.Judged.{is_older}
 use Rattle.btr_scrub.proofs.doubts.has_older.Goals as goal
-use Rattle.btr_chunk.proofs.Searches.{list_any-true, list_any-false}
 
 pub returns-then-is_older : goal.returns-then-is_older
 returns-then-is_older c =

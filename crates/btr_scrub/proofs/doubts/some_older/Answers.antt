@@ -1,8 +1,6 @@
 use Rattle.std.proofs.Common.{length, slice_get, sym, ap, ◌∙◌, arith}
-use Rattle.std.proofs.lemmas.Option.{slice_get_within}
-use Rattle.btr_scrub.specs.Judged.{has_older}
+use Rattle.btr_scrub.proofs.Common.{has_older, list_any-false, list_any-true, slice_get_within}
 use Rattle.btr_scrub.proofs.doubts.some_older.Goals as goal
-use Rattle.btr_chunk.proofs.Searches.{list_any-true, list_any-false}
 
 pub returns-then-has_older : goal.returns-then-has_older
 returns-then-has_older c =
@@ -13,6 +11,5 @@ returns-then-has_older c =
 pub returns : goal.returns
 returns c =
     let layout = c.args.store.now.layout in
-    sym (list_any-false (has_older layout.devices) layout.chunks (λ j chunk e.
-    c.loop-i.invariant j chunk
+    sym (list_any-false (has_older layout.devices) layout.chunks (λ j chunk e. c.loop-i.invariant j chunk
     (omega (arith, slice_get_within layout.chunks j chunk e, c.loop-i-test.false, c.count-i-end.ensures.count, ap length c.chunks.ensures)) e))

@@ -1,6 +1,5 @@
 use Rattle.std.proofs.Common.{◌≡◌, ℕ, ◌<◌, Some, false, slice_get}
-use Rattle.btr_chunk.specs.declared.chunk.Chunk.{Chunk}
-use Rattle.btr_scrub.specs.Judged.{has_older}
+use Rattle.btr_scrub.proofs.Common.{Chunk, has_older}
 use Rattle.btr_scrub.proofs.doubts.some_older.Given as goal
 
 abbrev pub invariant-loop-i : goal.invariant-loop-i

@@ -1,11 +1,7 @@
 use Rattle.std.proofs.Common.{◌≡◌, is_none, length, slice_get, sym, ap, ◌∙◌, inl, inr, arith}
-use Rattle.std.proofs.lemmas.Bool.{cases_lt}
-use Rattle.std.proofs.lemmas.Option.{same_Some, slice_get_within}
-use Rattle.btr_chunk.specs.Chunk.{mirrors}
-use Rattle.btr_chunk.specs.declared.chunk.Chunk.{Chunk}
+use Rattle.btr_scrub.proofs.Common.{Chunk, cases_lt, list_any-false, list_any-true, mirrors, same_Some, slice_get_within}
 use Rattle.btr_scrub.proofs.Working.{some_and}
 use Rattle.btr_scrub.proofs.doubts.some_parity.Goals as goal
-use Rattle.btr_chunk.proofs.Searches.{list_any-true, list_any-false}
 
 pub returns-then-has_parity : goal.returns-then-has_parity
 returns-then-has_parity c =
@@ -26,13 +22,5 @@ loop-i-preserved c = λ j chunk lt e. elim (cases_lt j c.loop-i.i) [
 
 pub returns : goal.returns
 returns c =
-    sym (list_any-false (λ (chunk : Chunk). is_none (mirrors chunk)) c.args.store.now.layout.chunks (λ j chunk e.
-    c.loop-i.invariant j chunk
-    (omega (
-      arith,
-      slice_get_within c.args.store.now.layout.chunks j chunk e,
-      c.loop-i-test.false,
-      c.count-i-end.ensures.count,
-      ap length
-          c.chunks.ensures,
-    )) e))
+    sym (list_any-false (λ (chunk : Chunk). is_none (mirrors chunk)) c.args.store.now.layout.chunks (λ j chunk e. c.loop-i.invariant j chunk
+    (omega (arith, slice_get_within c.args.store.now.layout.chunks j chunk e, c.loop-i-test.false, c.count-i-end.ensures.count, ap length c.chunks.ensures)) e))

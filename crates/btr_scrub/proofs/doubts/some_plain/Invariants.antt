@@ -1,6 +1,5 @@
 use Rattle.std.proofs.Common.{◌≡◌, length}
-use Rattle.std.specs.List.{list_any}
-use Rattle.btr_read.specs.Fate.{is_plain}
+use Rattle.btr_scrub.proofs.Common.{is_plain, list_any}
 use Rattle.btr_scrub.proofs.doubts.some_plain.Given as goal
 
 abbrev pub invariant-loop-want : goal.invariant-loop-want

@@ -1,6 +1,5 @@
 use Rattle.std.proofs.Common.{Err, sym, ap, ◌∙◌, arith}
-use Rattle.btr_chunk.specs.Table.{chunk_at}
-use Rattle.btr_chunk.proofs.Rule.{facts}
+use Rattle.btr_scrub.proofs.Common.{chunk_at, facts}
 use Rattle.btr_scrub.proofs.Placing.{crosses_there, ends_inside, no_chunk, not_in_chunk}
 use Rattle.btr_scrub.proofs.judging.end_of.Goals as goal
 

@@ -1,6 +1,5 @@
 use Rattle.std.proofs.Common.{inr, sym, subst}
-use Rattle.btr_scrub.specs.Judging.{IsFirstRefused}
-use Rattle.btr_scrub.specs.Order.{AreUpTo}
+use Rattle.btr_scrub.proofs.Common.{AreUpTo, IsFirstRefused}
 use Rattle.btr_scrub.proofs.Placed.{passed_apart, passed_refused}
 use Rattle.btr_scrub.proofs.judging.judge_blocks.Goals as goal
 

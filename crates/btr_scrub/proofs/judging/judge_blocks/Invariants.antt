@@ -1,7 +1,5 @@
 use Rattle.std.proofs.Common.{ℕ, length}
-use Rattle.btr_walk.specs.declared.fault.TreeFault.{TreeFault}
-use Rattle.btr_scrub.specs.Judging.{IsFirstRefused}
-use Rattle.btr_scrub.specs.Order.{AreUpTo}
+use Rattle.btr_scrub.proofs.Common.{AreUpTo, IsFirstRefused, TreeFault}
 use Rattle.btr_scrub.proofs.judging.judge_blocks.Given as goal
 
 abbrev pub invariant-loop-want : goal.invariant-loop-want

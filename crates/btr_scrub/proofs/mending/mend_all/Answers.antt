@@ -1,13 +1,7 @@
 use Rattle.std.proofs.lemmas.List.{take_all}
 use Rattle.std.proofs.Common.{◌≡◌, length, slice_get, take, Some, Ok, Err, IsSomeAnd, refl, sym, ap, ◌∙◌, subst, arith}
-use Rattle.btr_chunk.specs.declared.chunk.Chunk.{Chunk}
-use Rattle.btr_read.specs.Layout.{Layout}
-use Rattle.btr_read.proofs.Serving.{serving}
-use Rattle.btr_scrub_copies.proofs.Copied.{same_loans_then}
-use Rattle.btr_scrub.specs.WrittenRanges.{alone}
-use Rattle.btr_scrub.specs.Order.{AreApart}
-use Rattle.btr_scrub.specs.Scrubbing.{HasRooms, IsPastChunk, Works, all_count_for, all_writes_for, chunk_count_for, chunk_writes_for}
-use Rattle.btr_scrub_copies.specs.Fresh.{flagged}
+use Rattle.btr_scrub.proofs.Common.{AreApart, Chunk, HasRooms, IsPastChunk, Layout, Works, all_count_for, all_writes_for, alone, chunk_count_for}
+use Rattle.btr_scrub.proofs.Common.{chunk_writes_for, flagged, same_loans_then, serving}
 use Rattle.btr_scrub.proofs.Blockwise.{have_lengths}
 use Rattle.btr_scrub.proofs.AcrossChunks.{chunk_unmoved}
 use Rattle.btr_scrub.proofs.Working.{at_number, begins_there, chunks_cut, chunks_more, chunks_none, works_alone, works_passed}
@@ -41,8 +35,7 @@ mend_and_sync-requires-clause-chunk g c =
     let begin = begins_there (flagged c.args.task.failing.now) layout table c.args.blocks.now c.loop-number.number at.0 at.1 c.loop-number.blocks h.end h.passed
     h.apart in
     subst (λ (l : Layout). IsSomeAnd (slice_get l.chunks c.loop-number.number) (λ chunk. AreApart l chunk.start c.loop-number.blocks))
-    (sym c.loop-number.invariant.loans.layout)
-    (subst (λ o. IsSomeAnd o (λ chunk. AreApart layout chunk.start c.loop-number.blocks)) (sym at.1) begin)
+    (sym c.loop-number.invariant.loans.layout) (subst (λ o. IsSomeAnd o (λ chunk. AreApart layout chunk.start c.loop-number.blocks)) (sym at.1) begin)
 
 pub returns-in_err-mend_and_sync-clause-loans : goal.returns-in_err-mend_and_sync-clause-loans
 returns-in_err-mend_and_sync-clause-loans g c = same_loans_then c.args.store.now c.loop-number.store c.mend_and_sync.new.store c.loop-number.invariant.loans
@@ -65,8 +58,7 @@ returns-in_err-mend_and_sync-clause-works g c =
     let one = works_alone layout c.args.task.write {A = Unit {0}} c.loop-number.number at.0 at.1
     (chunk_writes_for (flagged c.args.task.failing.now) layout at.0 c.loop-number.blocks)
     (chunk_count_for (flagged c.args.task.failing.now) layout c.args.task.write at.0 c.loop-number.blocks) b z c.loop-number.progress.tally
-    c.mend_and_sync.new.progress.tally
-    (Err c.in_err-mend_and_sync.field-0.0) only in
+    c.mend_and_sync.new.progress.tally (Err c.in_err-mend_and_sync.field-0.0) only in
     works_passed c.from_residual.ensures.1
     (chunks_cut (flagged c.args.task.failing.now) layout table c.args.blocks.now c.loop-number.number at.0 at.1 c.args.task.write c.loop-number.blocks
     c.mend_and_sync.new.blocks a b z c.args.progress.now.tally c.loop-number.progress.tally c.mend_and_sync.new.progress.tally c.loop-number.invariant.past
@@ -87,13 +79,11 @@ loop-number-preserved g c =
     let only = subst (λ (l : Layout). (chunk : Chunk) → slice_get l.chunks c.loop-number.number ≡ Some chunk
     → Works {A = Unit {0}} (alone l chunk) c.args.task.write (chunk_writes_for (flagged c.args.task.failing.now) l chunk c.loop-number.blocks)
     (chunk_count_for (flagged c.args.task.failing.now) l c.args.task.write chunk c.loop-number.blocks) b z c.loop-number.progress.tally
-    c.mend_and_sync.new.progress.tally
-    (Ok tt)) inv.loans.layout c.in_ok-mend_and_sync.ensures.works at.0 at.1 in
+    c.mend_and_sync.new.progress.tally (Ok tt)) inv.loans.layout c.in_ok-mend_and_sync.ensures.works at.0 at.1 in
     let one = works_alone layout c.args.task.write {A = Unit {0}} c.loop-number.number at.0 at.1
     (chunk_writes_for (flagged c.args.task.failing.now) layout at.0 c.loop-number.blocks)
     (chunk_count_for (flagged c.args.task.failing.now) layout c.args.task.write at.0 c.loop-number.blocks) b z c.loop-number.progress.tally
-    c.mend_and_sync.new.progress.tally
-    (Ok tt) only in
+    c.mend_and_sync.new.progress.tally (Ok tt) only in
     let past = subst (λ (l : Layout). (chunk : Chunk) → slice_get l.chunks c.loop-number.number ≡ Some chunk
     → IsPastChunk l chunk c.loop-number.blocks c.mend_and_sync.new.blocks) inv.loans.layout c.in_ok-mend_and_sync.ensures.past at.0 at.1 in
     record {
@@ -121,5 +111,4 @@ returns-clause-works g c =
     take_all c.loop-number.number layout.chunks (omega (arith, c.loop-number-test.false, c.count-number-end.ensures.count, ap length c.chunks.ensures)) in
     subst (λ cs. Works {A = Unit {0}} layout c.args.task.write (all_writes_for (flagged c.args.task.failing.now) layout cs c.args.blocks.now)
     (all_count_for (flagged c.args.task.failing.now) layout c.args.task.write cs c.args.blocks.now) (g.R.Rack.seen c.args.rack.now)
-    (g.R.Rack.seen c.loop-number.rack) c.args.progress.now.tally c.loop-number.progress.tally (Ok tt)) whole
-    c.loop-number.invariant.past.done
+    (g.R.Rack.seen c.loop-number.rack) c.args.progress.now.tally c.loop-number.progress.tally (Ok tt)) whole c.loop-number.invariant.past.done

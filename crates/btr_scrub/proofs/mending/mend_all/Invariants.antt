@@ -1,6 +1,4 @@
-use Rattle.btr_read.specs.Store.{SameLoans}
-use Rattle.btr_scrub.specs.Scrubbing.{CanMend, HasRooms}
-use Rattle.btr_scrub_copies.specs.Fresh.{flagged}
+use Rattle.btr_scrub.proofs.Common.{CanMend, HasRooms, SameLoans, flagged}
 use Rattle.btr_scrub.proofs.Working.{ChunksPast}
 use Rattle.btr_scrub.proofs.mending.mend_all.Given as goal
 

@@ -1,8 +1,6 @@
 use Rattle.std.proofs.Common.{◌≡◌, true, false, length, drop, ap, subst, ◌∙◌, rules}
-use Rattle.std.proofs.lemmas.List.{take_at}
+use Rattle.btr_scrub.proofs.Common.{chunk_count_for, chunk_writes_for, flagged, take_at}
 use Rattle.btr_scrub_copies.specs.Syncing.{SyncsMarked}
-use Rattle.btr_scrub.specs.Scrubbing.{chunk_count_for, chunk_writes_for}
-use Rattle.btr_scrub_copies.specs.Fresh.{flagged}
 use Rattle.btr_scrub.proofs.Working.{can_mend_synced, works_halted, works_passed, works_read, works_synced}
 use Rattle.btr_scrub.proofs.mending.mend_and_sync.Goals as goal
 
@@ -47,5 +45,4 @@ returns-in_err-mend_chunk-clause-works g c chunk there =
     (chunk_count_for (flagged c.args.task.how.failing.now) layout c.args.task.how.write chunk c.args.blocks.now) c.args.progress.now.marks.items
     c.mend_chunk.new.progress.marks.items
     (g.R.Rack.seen c.args.rack.now) (g.R.Rack.seen c.mend_chunk.new.rack) c.args.progress.now.tally c.mend_chunk.new.progress.tally
-    c.in_err-mend_chunk.field-0.0
-    (c.in_err-mend_chunk.ensures.scrubs chunk there))
+    c.in_err-mend_chunk.field-0.0 (c.in_err-mend_chunk.ensures.scrubs chunk there))

@@ -1,11 +1,6 @@
 use Rattle.std.proofs.Common.{◌≡◌, Bool, true, false, cond, is_none, IsSomeAnd, sym, ◌∙◌, subst, rules}
-use Rattle.btr_chunk.specs.Chunk.{mirrors}
-use Rattle.btr_chunk.specs.declared.chunk.Chunk.{Chunk}
-use Rattle.btr_scrub_copies.specs.Fresh.{flagged}
-use Rattle.btr_scrub.specs.WrittenRanges.{alone}
-use Rattle.btr_scrub.specs.Order.{targets}
-use Rattle.btr_scrub.specs.Repair.{rows_in}
-use Rattle.btr_scrub.specs.Scrubbing.{Scrubs, chunk_count_for, chunk_writes_for, sites_count, sites_in, sites_writes, rows_count, rows_writes}
+use Rattle.btr_scrub.proofs.Common.{Chunk, Scrubs, alone, chunk_count_for, chunk_writes_for, flagged, mirrors, rows_count, rows_in, rows_writes, sites_count}
+use Rattle.btr_scrub.proofs.Common.{sites_in, sites_writes, targets}
 use Rattle.btr_scrub.proofs.mending.mend_chunk.Goals as goal
 
 pub returns-then-has_parity-clause-scrubs : goal.returns-then-has_parity-clause-scrubs

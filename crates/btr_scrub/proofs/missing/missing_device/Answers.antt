@@ -1,6 +1,6 @@
 use Rattle.std.proofs.Common.{slice_get, sym, ap, ◌∙◌}
-use Rattle.std.specs.Option.{option_map}
-use Rattle.btr_scrub.specs.Repair.{devid_of, missing_stripes}
+use Rattle.btr_scrub.proofs.Common.{missing_stripes, option_map}
+use Rattle.btr_scrub.specs.Repair.{devid_of}
 use Rattle.btr_scrub.proofs.Firsts.{flat_here, flat_over}
 use Rattle.btr_scrub.proofs.missing.missing_device.Goals as goal
 

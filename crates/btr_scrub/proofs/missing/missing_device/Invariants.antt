@@ -1,6 +1,5 @@
 use Rattle.std.proofs.Common.{◌≡◌, drop}
-use Rattle.std.specs.List.{flat_map}
-use Rattle.btr_scrub.specs.Repair.{missing_stripes}
+use Rattle.btr_scrub.proofs.Common.{flat_map, missing_stripes}
 use Rattle.btr_scrub.proofs.missing.missing_device.Given as goal
 
 abbrev pub invariant-loop-i : goal.invariant-loop-i

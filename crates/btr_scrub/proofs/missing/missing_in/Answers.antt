@@ -1,6 +1,5 @@
 use Rattle.std.proofs.Common.{◌≡◌, true, false, slice_get, sym, ap, ◌∙◌}
-use Rattle.std.specs.Option.{option_map}
-use Rattle.btr_chunk.specs.Chunk.{stripe_length}
+use Rattle.btr_scrub.proofs.Common.{option_map, stripe_length}
 use Rattle.btr_scrub.specs.Repair.{devid_of, is_missing}
 use Rattle.btr_scrub.proofs.Firsts.{found_here, passed_over}
 use Rattle.btr_scrub.proofs.missing.missing_in.Goals as goal

@@ -1,7 +1,6 @@
 use Rattle.std.proofs.Common.{◌≡◌, drop, slice_get}
-use Rattle.std.specs.List.{filter}
-use Rattle.btr_scrub.specs.Repair.{is_missing, missing_stripes}
-use Rattle.btr_chunk.specs.Chunk.{stripe_length}
+use Rattle.btr_scrub.proofs.Common.{filter, missing_stripes, stripe_length}
+use Rattle.btr_scrub.specs.Repair.{is_missing}
 use Rattle.btr_scrub.proofs.missing.missing_in.Given as goal
 
 abbrev pub invariant-loop-i : goal.invariant-loop-i

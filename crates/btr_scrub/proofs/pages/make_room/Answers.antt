@@ -1,6 +1,5 @@
 use Rattle.std.proofs.Common.{◌≡◌, length, Vec, OnOk, sym, ap, ◌∙◌, subst}
-use Rattle.std.specs.declared.alloc.Global.{Global}
-use Rattle.btr_scrub.specs.Pages.{items_in}
+use Rattle.btr_scrub.proofs.Common.{Global, items_in}
 use Rattle.btr_scrub.proofs.Paging.{made_fewer, made_full, made_same}
 use Rattle.btr_scrub.proofs.pages.make_room.Goals as goal
 

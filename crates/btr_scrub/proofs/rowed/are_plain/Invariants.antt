@@ -1,6 +1,5 @@
 use Rattle.std.proofs.Common.{◌≡◌, ℕ, ◌<◌, true, get_or}
-use Rattle.btr_read.specs.Fate.{is_plain}
-use Rattle.btr_read.specs.declared.want.Want.{Want}
+use Rattle.btr_scrub.proofs.Common.{Want, is_plain}
 use Rattle.btr_scrub.proofs.rowed.are_plain.Given as goal
 
 abbrev pub invariant-loop-want : goal.invariant-loop-want

@@ -1,5 +1,5 @@
 use Rattle.std.proofs.Common.{sym, ap, ◌∙◌}
-use Rattle.btr_chunk.specs.Mapping.{holds}
+use Rattle.btr_scrub.proofs.Common.{holds}
 use Rattle.btr_scrub.proofs.InRows.{has_row}
 use Rattle.btr_scrub.proofs.Positions.{find_at}
 use Rattle.btr_scrub.proofs.rowed.collect_row.Goals as goal

@@ -1,13 +1,7 @@
 use Rattle.std.proofs.Common.{◌≡◌, Bool, true, false, not, IsTrue, refl, sym, ap, ◌∙◌}
-use Rattle.std.proofs.lemmas.Option.{same_Some}
-use Rattle.btr_chunk.specs.Table.{chunk_at}
-use Rattle.btr_chunk.specs.declared.chunk.Chunk.{Chunk}
-use Rattle.btr_read.specs.Fate.{is_plain}
-use Rattle.btr_read.proofs.Fates.{sought_of}
-use Rattle.btr_scrub_copies.specs.Fresh.{flagged}
-use Rattle.btr_scrub_row.specs.Rows.{has_doubtful}
+use Rattle.btr_scrub.proofs.Common.{Chunk, all_at, chunk_at, flagged, has_doubtful, is_plain, same_Some, sought_of}
 use Rattle.btr_scrub.proofs.InertRows.{sought_of_row}
-use Rattle.btr_scrub.proofs.Lists.{all_from, all_in}
+use Rattle.btr_scrub.proofs.Lists.{all_from}
 use Rattle.btr_scrub.proofs.rowed.is_inert.Goals as goal
 
 not_true : (b : Bool) → IsTrue (not b) → b ≡ false
@@ -25,7 +19,7 @@ returns-then-are_plain c none r of fails =
     record {
       plain = all_from (λ t. is_plain t.want ≡ true) r.blocks (λ t i.
           let w = sought_of_row layout c.args.wants.now r.blocks of.blocks t i in
-          ap is_plain (sought_of layout w.0 t w.2).want_is ∙ all_in (λ w. is_plain w ≡ true) c.args.wants.now w.0 plain w.1);
+          ap is_plain (sought_of layout w.0 t w.2).want_is ∙ all_at (λ w. is_plain w ≡ true) c.args.wants.now w.0 plain w.1);
       sure = ap (λ f. has_doubtful devices f r.chunk) fails ∙ ap (has_doubtful devices (flagged c.args.failing.now)) (sym same)
           ∙ sym c.has_doubtful.ensures ∙ not_true c.has_doubtful.result none;
     }

@@ -1,13 +1,7 @@
-use Rattle.std.proofs.Common.{◌≡◌, [], Ok, length, drop, sym, ap, subst, ◌∙◌}
-use Rattle.std.proofs.lemmas.List.{take_at}
-use Rattle.btr_rack.specs.Rack.{Seen}
-use Rattle.btr_scrub_copies.specs.Writes.{Images}
-use Rattle.btr_scrub_row.specs.Mending.{IsRowOf, mended_row}
-use Rattle.btr_scrub_row.specs.Rows.{row_writes}
-use Rattle.btr_scrub.specs.WrittenRanges.{alone}
-use Rattle.btr_scrub.specs.Rowing.{IsInert, untouched}
-use Rattle.btr_scrub.specs.Scrubbing.{Scrubs, counted_row}
-use Rattle.btr_scrub.specs.declared.tally.Tally.{Tally}
+use Rattle.std.proofs.Common.{◌≡◌, Ok, length, drop, sym, ap, subst, ◌∙◌}
+use Rattle.btr_scrub.proofs.Common.{Images, Scrubs, Seen, alone, counted_row, mended_row, row_writes, take_at, untouched}
+use Rattle.btr_scrub_row.specs.Mending.{IsRowOf}
+use Rattle.btr_scrub.specs.Rowing.{IsInert}
 use Rattle.btr_scrub.proofs.InertRows.{inert_counts, inert_writes, sought_in_row}
 use Rattle.btr_scrub.proofs.OneRow.{flagged_row, has_room, row_in_stripe, scrubs_row, scrubs_row_not, still_ready}
 use Rattle.btr_scrub.proofs.Scrubbing.{scrubs_as, scrubs_idle, scrubs_passed}
@@ -40,12 +34,8 @@ returns-then-is_inert-clause-scrubs g c r is fails =
     subst (λ u. Scrubs (alone layout r.chunk) write (λ images. row_writes images layout r)
     (λ images tally. counted_row tally (mended_row images layout r write)) c.args.progress.now.marks.items c.args.progress.now.marks.items a a tally u (Ok tt))
     (sym told)
-    (scrubs_as (alone layout r.chunk) write (λ (images : Images). []) (λ images. row_writes images layout r)
-    (λ (images : Images) (t : Tally). counted_row t untouched)
-    (λ images t. counted_row t (mended_row images layout r write)) c.args.progress.now.marks.items c.args.progress.now.marks.items a a tally
-    (counted_row tally untouched) (Ok tt)
-    (λ images e. (sym (writes images), sym (ap (counted_row tally) (counts images))))
-    (scrubs_idle (alone layout r.chunk) write (λ t. counted_row t untouched) c.args.progress.now.marks.items a tally tt))
+    (scrubs_as (alone layout r.chunk) write (scrubs_idle (alone layout r.chunk) write (λ t. counted_row t untouched) c.args.progress.now.marks.items a tally
+    tt) (λ images e. (sym (writes images), sym (ap (counted_row tally) (counts images)))))
 
 pub returns-clause-scrubs : goal.returns-clause-scrubs
 returns-clause-scrubs g c r is fails =
@@ -57,8 +47,7 @@ returns-clause-scrubs g c r is fails =
     rw (back, sym c.deref_mut.ensures.value) (scrubs_row layout c.args.task.write r c.deref_mut.result.now marks (g.R.Rack.seen c.args.rack.now)
     (g.R.Rack.seen c.mend_row.new.rack)
     (λ range of. row_in_stripe layout c.args.at.chunk c.args.at.number r range c.requires.ready.table is.stripe of) c.args.progress.now.tally
-    c.counted_row-progress-2.result c.in_ok-mended.mended (c.in_ok-mended.ensures.mends r here fails)
-    c.counted_row-progress-2.ensures)
+    c.counted_row-progress-2.result c.in_ok-mended.mended (c.in_ok-mended.ensures.mends r here fails) c.counted_row-progress-2.ensures)
 
 pub returns-in_err-mended-clause-scrubs : goal.returns-in_err-mended-clause-scrubs
 returns-in_err-mended-clause-scrubs g c r is fails =
@@ -68,11 +57,9 @@ returns-in_err-mended-clause-scrubs g c r is fails =
     let back = take_at marks (drop (length marks) c.args.progress.now.marks.items) c.args.progress.now.marks.len
     (c.mend_row.auto.marks ∙ c.deref_mut.ensures.len) in
     rw (back, sym c.deref_mut.ensures.value) (scrubs_passed c.from_residual.ensures.1
-    (scrubs_row_not layout c.args.task.write r c.deref_mut.result.now marks (g.R.Rack.seen c.args.rack.now)
-    (g.R.Rack.seen c.mend_row.new.rack)
+    (scrubs_row_not layout c.args.task.write r c.deref_mut.result.now marks (g.R.Rack.seen c.args.rack.now) (g.R.Rack.seen c.mend_row.new.rack)
     (λ range of. row_in_stripe layout c.args.at.chunk c.args.at.number r range c.requires.ready.table is.stripe of) c.args.progress.now.tally
-    c.in_err-mended.field-0.0
-    (c.in_err-mended.ensures.mends r here fails)))
+    c.in_err-mended.field-0.0 (c.in_err-mended.ensures.mends r here fails)))
 
 pub returns-clause-ready : goal.returns-clause-ready
 returns-clause-ready g c =

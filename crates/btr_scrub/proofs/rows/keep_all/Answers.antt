@@ -1,6 +1,7 @@
 use Rattle.std.proofs.Common.{get_or, refl, sym, subst, append-nil}
 use Rattle.btr_read.specs.declared.want.Want.TheVariants.{Tree}
-use Rattle.btr_scrub.specs.Listed.{IsOfKind, kept_wants}
+use Rattle.btr_scrub.proofs.Common.{kept_wants}
+use Rattle.btr_scrub.specs.Listed.{IsOfKind}
 use Rattle.btr_scrub.proofs.Sieving.{of_kind_at}
 use Rattle.btr_scrub.proofs.rows.keep_all.Goals as goal
 

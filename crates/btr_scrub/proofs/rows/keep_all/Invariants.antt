@@ -1,5 +1,5 @@
 use Rattle.std.proofs.Common.{take}
-use Rattle.btr_scrub.specs.Listed.{AddsAll}
+use Rattle.btr_scrub.proofs.Common.{AddsAll}
 use Rattle.btr_scrub.proofs.rows.keep_all.Given as goal
 
 abbrev pub invariant-loop-want : goal.invariant-loop-want

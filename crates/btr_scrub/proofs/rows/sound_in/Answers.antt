@@ -1,8 +1,6 @@
 use Rattle.std.proofs.Common.{◌≡◌, ℕ, [], false, Option, None, length, sym, ap, ◌∙◌, subst, refl}
-use Rattle.std.proofs.lemmas.Result.{err_from_is_err_and}
-use Rattle.btr_rack.specs.Rack.{Seen}
-use Rattle.btr_scrub_row.specs.Mending.{IsRowOf, mended_row}
-use Rattle.btr_scrub_row.specs.declared.mended.MendedRow.{MendedRow}
+use Rattle.btr_scrub.proofs.Common.{MendedRow, Seen, err_from_is_err_and, mended_row}
+use Rattle.btr_scrub_row.specs.Mending.{IsRowOf}
 use Rattle.btr_scrub.specs.Sifting.{sound_in}
 use Rattle.btr_scrub.proofs.OneRow.{flagged_row, has_room, still_ready}
 use Rattle.btr_scrub.proofs.Scrubbing.{tell, told}
@@ -35,8 +33,7 @@ returns-clause-sound g c r is fails =
     let here = subst (λ ws. IsRowOf layout c.args.at.chunk c.args.at.number ws r) (sym c.deref-2.ensures.value) is in
     tell held (λ images. c.sound_of.result ≡ sound_in images layout r) (λ images h. c.sound_of.ensures
     ∙ read_needed images layout c.deref.result.now r c.in_ok-mended.mended
-    (subst (λ ws. IsRowOf layout c.args.at.chunk c.args.at.number ws r) (sym c.deref.ensures.value) is).blocks
-    (sym c.has_plain.ensures ∙ c.if-has_plain.false)
+    (subst (λ ws. IsRowOf layout c.args.at.chunk c.args.at.number ws r) (sym c.deref.ensures.value) is).blocks (sym c.has_plain.ensures ∙ c.if-has_plain.false)
     (told held (λ images. c.in_ok-mended.mended ≡ mended_row images layout r false) images h (c.in_ok-mended.ensures.mends r here fails).counts))
 
 pub returns-clause-ready : goal.returns-clause-ready
@@ -86,5 +83,4 @@ returns-in_err-mended-clause-account g c =
     let here = subst (λ ws. IsRowOf layout c.args.at.chunk c.args.at.number ws r) (sym c.deref-2.ensures.value) c.requires.row.is in
     let p = err_from_is_err_and c.from_residual.result c.from_residual.ensures.1 in
     rw (p.1, p.2) (row_account MendedRow (Option ℕ) layout c.args.at.chunk c.args.at.number c.args.room.now.wants.items r (g.R.Rack.seen c.args.rack.now)
-    (g.R.Rack.seen c.mend_row.new.rack)
-    c.in_err-mended.field-0.0 c.requires.ready.table c.requires.row.is (c.in_err-mended.ensures.account refl r here))
+    (g.R.Rack.seen c.mend_row.new.rack) c.in_err-mended.field-0.0 c.requires.ready.table c.requires.row.is (c.in_err-mended.ensures.account refl r here))

@@ -1,9 +1,5 @@
 use Rattle.std.proofs.Common.{◌+◌, ◌*◌, refl, subst, ◌∙◌}
-use Rattle.btr_base.specs.Sum.{stored_sum}
-use Rattle.btr_base.specs.declared.kind.SumKind.{SumKind}
-use Rattle.btr_read.specs.declared.want.Want.TheVariants.{Sector}
-use Rattle.btr_scrub.specs.Listed.{AddsTo}
-use Rattle.btr_scrub.specs.declared.gathered.Gathered.{Gathered}
+use Rattle.btr_scrub.proofs.Common.{AddsTo, Gathered, Sector, SumKind, stored_sum}
 use Rattle.btr_scrub.proofs.KeptSums.{kept_more, kept_none}
 use Rattle.btr_scrub.proofs.sectors.gather_kept.Goals as goal
 

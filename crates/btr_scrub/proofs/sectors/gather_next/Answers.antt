@@ -1,16 +1,7 @@
 use Rattle.std.proofs.Common.{ℕ, ◌≤◌, Ok, sym, subst, refl, arith}
-use Rattle.btr_base.specs.Sum.{stored_sum}
-use Rattle.btr_base.specs.declared.kind.SumKind.{SumKind}
-use Rattle.btr_read.specs.declared.want.Want.TheVariants.{Sector}
-use Rattle.btr_volume.specs.Looking.{Looks}
-use Rattle.btr_walk.specs.Reading.{Tells}
+use Rattle.btr_scrub.proofs.Common.{AddsTo, Gathered, Gathers, Looks, Sector, SumKind, Tells, kind_in, scene, sectors, stored_sum, sum_at, tree_behind}
 use Rattle.btr_files.specs.Gaps.{IsGap, first_sum}
-use Rattle.btr_files.specs.Sums.{kind_in, sum_at, tree_behind}
 use Rattle.btr_files.specs.declared.summed.Summed.{Summed}
-use Rattle.btr_scrub.specs.Gathering.{Gathers, scene}
-use Rattle.btr_scrub.specs.Listed.{AddsTo}
-use Rattle.btr_scrub.specs.Units.{sectors}
-use Rattle.btr_scrub.specs.declared.gathered.Gathered.{Gathered}
 use Rattle.btr_scrub.proofs.Gaps.{gathers_gap, gathers_one}
 use Rattle.btr_scrub.proofs.OneSector.{gathers_sector, sector_fault, sector_memory}
 use Rattle.btr_scrub.proofs.sectors.gather_next.Goals as goal

@@ -1,8 +1,7 @@
 use Rattle.std.proofs.Common.{ℕ, subst, arith, ◌≡◌}
-use Rattle.btr_super.specs.declared.superblock.Super.{Super}
+use Rattle.btr_scrub.proofs.Common.{Lists, Super, scene, tree_behind}
 use Rattle.btr_files.specs.Aheads.{kept_sum}
-use Rattle.btr_files.specs.Sums.{tree_behind}
-use Rattle.btr_scrub.specs.Gathering.{GathersSome, Lists, scene, sectors_met}
+use Rattle.btr_scrub.specs.Gathering.{GathersSome, sectors_met}
 use Rattle.btr_scrub.proofs.Gathering.{gathers_none}
 use Rattle.btr_scrub.proofs.KeptSums.{gathers_kept, some_behind}
 use Rattle.btr_scrub.proofs.OneSector.{sector_fault, sector_memory}

@@ -1,11 +1,6 @@
 use Rattle.std.proofs.Common.{◌≡◌, false, Err, sym, ap, ◌∙◌, refl}
-use Rattle.std.proofs.lemmas.Result.{err_from_is_err_and}
-use Rattle.btr_read.specs.Fate.{is_plain, sought}
-use Rattle.btr_read.proofs.Fates.{sought_of}
+use Rattle.btr_scrub.proofs.Common.{Mended, err_from_is_err_and, is_copy_needed, is_plain, mended_of, sought, sought_of}
 use Rattle.btr_scrub_copies.proofs.Doing.{only_slots}
-use Rattle.btr_scrub_copies.specs.Mending.{mended_of}
-use Rattle.btr_scrub_copies.specs.declared.mended.Mended.{Mended}
-use Rattle.btr_scrub.specs.Sifting.{is_copy_needed}
 use Rattle.btr_scrub.proofs.Doubting.{the_sought}
 use Rattle.btr_scrub.proofs.Scrubbing.{can_mend_then, tell, told}
 use Rattle.btr_scrub.proofs.Sieving.{copies_in_stripe, needed_block, sought_copied}
@@ -64,5 +59,4 @@ returns-in_err-mended-clause-account g c =
     let t = the_sought (sought layout c.args.want.now) c.requires.sought in
     let p = err_from_is_err_and c.from_residual.result c.from_residual.ensures.1 in
     rw (p.1, p.2) (copies_in_stripe {A = Mended} layout c.args.want.now t.0 (g.R.Rack.seen c.args.rack.now) (g.R.Rack.seen c.mend_copies.new.rack)
-    (Err c.in_err-mended.field-0.0)
-    c.requires.ready.table t.1 (c.in_err-mended.ensures.mends t.0 t.1).does.account)
+    (Err c.in_err-mended.field-0.0) c.requires.ready.table t.1 (c.in_err-mended.ensures.mends t.0 t.1).does.account)

@@ -1,5 +1,5 @@
 use Rattle.std.proofs.Common.{is_none, not, sym, ap, ◌∙◌}
-use Rattle.btr_chunk.specs.Table.{chunk_at}
+use Rattle.btr_scrub.proofs.Common.{chunk_at}
 use Rattle.btr_scrub.proofs.Sieving.{passes_inert}
 use Rattle.btr_scrub.proofs.sieve.pass_inert.Goals as goal
 

@@ -1,16 +1,9 @@
 use Rattle.std.proofs.Common.{◌∷◌, ◌++◌, [], Err, length, refl, sym, ap, ◌∙◌, subst, arith, append_assoc, append-nil, length-append}
-use Rattle.std.proofs.lemmas.Result.{err_from_is_err_and}
-use Rattle.btr_rack.proofs.Reading.{reads_more}
-use Rattle.btr_read.specs.Layout.{Layout}
+use Rattle.btr_scrub.proofs.Common.{AccountsMend, AreApart, AreOfKind, CanSift, Layout, LiesInStripe, ShareNoRow, Sifts, SiftsNext, err_from_is_err_and}
+use Rattle.btr_scrub.proofs.Common.{reads_more, same_held, same_loans_then}
 use Rattle.btr_read.proofs.Keeping.{none_more}
-use Rattle.btr_read.proofs.ReadsOn.{same_held, same_sure}
-use Rattle.btr_scrub_copies.proofs.Copied.{same_loans_then}
+use Rattle.btr_read.proofs.ReadsOn.{same_sure}
 use Rattle.btr_scrub_copies.proofs.Doing.{account_then}
-use Rattle.btr_scrub_copies.specs.Writes.{AccountsMend}
-use Rattle.btr_scrub.specs.WrittenRanges.{LiesInStripe}
-use Rattle.btr_scrub.specs.Listed.{AreOfKind}
-use Rattle.btr_scrub.specs.Order.{AreApart}
-use Rattle.btr_scrub.specs.Sifting.{CanSift, ShareNoRow, Sifts, SiftsNext}
 use Rattle.btr_scrub.proofs.RowNumbers.{tail_apart}
 use Rattle.btr_scrub.proofs.Sieving.{of_kind_behind, share_left, sifts_more, sifts_none}
 use Rattle.btr_scrub.proofs.Unitwise.{apart_from}

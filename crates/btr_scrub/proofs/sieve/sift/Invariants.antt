@@ -1,11 +1,5 @@
 use Rattle.std.proofs.Common.{◌≡◌, List, ◌++◌, false, length}
-use Rattle.btr_rack.specs.Rack.{NoneFailed, OnlyReads}
-use Rattle.btr_read.specs.Store.{SameLoans}
-use Rattle.btr_read.specs.declared.want.Want.{Want}
-use Rattle.btr_scrub.specs.Listed.{AreOfKind}
-use Rattle.btr_scrub.specs.Order.{AreApart}
-use Rattle.btr_scrub.specs.Scrubbing.{CanMend}
-use Rattle.btr_scrub.specs.Sifting.{ShareNoRow, Sifts}
+use Rattle.btr_scrub.proofs.Common.{AreApart, AreOfKind, CanMend, NoneFailed, OnlyReads, SameLoans, ShareNoRow, Sifts, Want}
 use Rattle.btr_scrub.proofs.sieve.sift.Given as goal
 
 abbrev pub invariant-loop-want : goal.invariant-loop-want

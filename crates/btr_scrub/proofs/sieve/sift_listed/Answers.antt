@@ -1,8 +1,5 @@
 use Rattle.std.proofs.Common.{sym, ◌∙◌, subst, arith}
-use Rattle.btr_scrub.specs.Judging.{IsFirstRefused}
-use Rattle.btr_scrub.specs.Listed.{AreOfKind, kept_wants}
-use Rattle.btr_scrub.specs.Order.{AreApart, AreUpTo}
-use Rattle.btr_scrub.specs.Sifting.{Sifts}
+use Rattle.btr_scrub.proofs.Common.{AreApart, AreOfKind, AreUpTo, IsFirstRefused, Sifts, kept_wants}
 use Rattle.btr_scrub.proofs.Sieving.{in_span, list_of_kind, none_if, outside_span, shares_span, stands_judged, stands_more, stands_refused, upto_between}
 use Rattle.btr_scrub.proofs.Unitwise.{apart_from, between_apart}
 use Rattle.btr_scrub.proofs.sieve.sift_listed.Goals as goal
@@ -41,16 +38,14 @@ returns-in_ok-sift-in-Ok-clause-went g c whole after h is =
     let none = none_if sieve.refused (sym c.is_some.ensures ∙ c.if-is_some.false) in
     stands_more layout held whole c.args.gathered.now after is sieve none h c.requires.ready.table
     (shares_span layout held whole sieve none h c.args.span.now c.in-Ok.end wants c.requires.ready.table c.requires.chunk c.requires.behind upto
-    (sym c.lies_in.ensures ∙ c.if-not-lies_in.false))
-    c.sift.new.sifted c.in-Ok.end upto
+    (sym c.lies_in.ensures ∙ c.if-not-lies_in.false)) c.sift.new.sifted c.in-Ok.end upto
     (subst (λ ws. Sifts layout held ws sieve.sifted c.sift.new.sifted) c.read_all-blocks.ensures c.in_ok-sift-in-Ok.ensures.sifts)
 
 pub returns-in_ok-sift-in-Ok-clause-end : goal.returns-in_ok-sift-in-Ok-clause-end
 returns-in_ok-sift-in-Ok-clause-end g c =
     let layout = c.args.store.now.layout in
     in_span layout c.args.span.now c.args.sieve.now.end c.in-Ok.end (kept_wants c.args.gathered.now.list) c.requires.behind
-    (subst (AreUpTo layout c.args.sieve.now.end c.in-Ok.end) c.read_all.ensures c.in-Ok.ensures)
-    (sym c.lies_in.ensures ∙ c.if-not-lies_in.false)
+    (subst (AreUpTo layout c.args.sieve.now.end c.in-Ok.end) c.read_all.ensures c.in-Ok.ensures) (sym c.lies_in.ensures ∙ c.if-not-lies_in.false)
 
 pub returns-in-Err-clause-went : goal.returns-in-Err-clause-went
 returns-in-Err-clause-went g c whole after h is =

@@ -1,9 +1,5 @@
 use Rattle.std.proofs.Common.{◌+◌, refl, sym, ap, ◌∙◌, subst, arith, is_none, is_some, not}
-use Rattle.btr_chunk.specs.Chunk.{mirrors}
-use Rattle.btr_chunk.specs.Table.{chunk_at}
-use Rattle.btr_read.specs.Fate.{sought}
-use Rattle.btr_read.specs.Layout.{Layout}
-use Rattle.btr_read.specs.Want.{addr_of, len_of}
+use Rattle.btr_scrub.proofs.Common.{Layout, addr_of, chunk_at, len_of, mirrors, sought}
 use Rattle.btr_scrub.specs.Sifting.{PassesInert}
 use Rattle.btr_scrub.proofs.Doubting.{the_sought}
 use Rattle.btr_scrub.proofs.Lists.{some_if}

@@ -1,11 +1,6 @@
 use Rattle.std.proofs.Common.{◌≡◌, ◌+◌, ◌∷◌, [], true, false, cond, not, IfSome, refl, sym, ap, ◌∙◌, subst, arith}
 use Rattle.std.specs.Prelude.{count_by}
-use Rattle.btr_read.specs.Fate.{is_plain, sought}
-use Rattle.btr_read.proofs.Fates.{sought_of}
-use Rattle.btr_scrub_row.specs.Wanted.{is_checked}
-use Rattle.btr_scrub.specs.Order.{targets}
-use Rattle.btr_scrub.specs.Repair.{stood}
-use Rattle.btr_scrub.specs.Sifting.{is_copy_needed}
+use Rattle.btr_scrub.proofs.Common.{is_checked, is_copy_needed, is_plain, sought, sought_of, stood, targets}
 use Rattle.btr_scrub.proofs.Doubting.{the_sought}
 use Rattle.btr_scrub.proofs.Scrubbing.{tell}
 use Rattle.btr_scrub.proofs.Sieving.{one_counted, one_needed, one_placed, sifts_kept, sifts_out}

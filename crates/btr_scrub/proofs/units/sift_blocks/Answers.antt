@@ -1,6 +1,5 @@
 use Rattle.std.proofs.Common.{refl}
-use Rattle.std.proofs.lemmas.Result.{err_from_is_err_and}
-use Rattle.btr_scrub.specs.Units.{units_in}
+use Rattle.btr_scrub.proofs.Common.{err_from_is_err_and, units_in}
 use Rattle.btr_scrub.proofs.Sieved.{nothing_is, nothing_listed, sifted_all, sifted_none}
 use Rattle.btr_scrub.proofs.units.sift_blocks.Goals as goal
 

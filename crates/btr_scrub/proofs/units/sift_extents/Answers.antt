@@ -1,13 +1,7 @@
 use Rattle.std.proofs.Common.{Option, subst, sym}
-use Rattle.btr_prog.specs.Quiet.{quiet}
-use Rattle.btr_read.specs.Layout.{Layout}
-use Rattle.btr_read.proofs.ReadsOn.{same_held}
+use Rattle.btr_scrub.proofs.Common.{CanSift, Layout, TreeRoot, in_chunks, quiet, same_held, scene}
 use Rattle.btr_volume.specs.Tree.{tree_of}
-use Rattle.btr_volume.specs.declared.root.TreeRoot.{TreeRoot}
 use Rattle.btr_volume.specs.declared.stop.Stop.TheVariants.{Tree}
-use Rattle.btr_scrub.specs.Gathering.{scene}
-use Rattle.btr_scrub.specs.Sifting.{CanSift}
-use Rattle.btr_scrub.specs.Units.{in_chunks}
 use Rattle.btr_scrub.proofs.Gathering.{gathers_fault, gathers_found, gathers_halt}
 use Rattle.btr_scrub.proofs.Sieved.{sieves_as, sieves_stop, sieves_then, stands_as}
 use Rattle.btr_scrub.proofs.units.sift_extents.Goals as goal

@@ -1,14 +1,10 @@
 use Rattle.std.proofs.Common.{Bool, length, Ok, Err, refl, sym, ap, ◌∙◌, subst}
 use Rattle.std.specs.declared.vec.Vec.{Vec}
-use Rattle.std.specs.declared.alloc.Global.{Global}
+use Rattle.btr_scrub.proofs.Common.{Global, Works, all_count_for, all_writes_for, begun, flagged, kept_wants, listed_count_for, listed_writes_for, same_held}
+use Rattle.btr_scrub.proofs.Common.{serving}
 use Rattle.btr_scrub_copies.specs.Writes.{AreWritable}
-use Rattle.btr_read.proofs.ReadsOn.{same_held, same_slots}
-use Rattle.btr_read.proofs.Serving.{serves_as, serving}
-use Rattle.btr_scrub.specs.Listed.{kept_wants}
-use Rattle.btr_scrub_copies.specs.Fresh.{flagged}
-use Rattle.btr_scrub.specs.Scrubbing.{Works, all_count_for, all_writes_for}
-use Rattle.btr_scrub.specs.Sifting.{begun}
-use Rattle.btr_scrub.specs.Whole.{listed_count_for, listed_writes_for}
+use Rattle.btr_read.proofs.ReadsOn.{same_slots}
+use Rattle.btr_read.proofs.Serving.{serves_as}
 use Rattle.btr_scrub.proofs.Sufficing.{works_beside, works_missed}
 use Rattle.btr_scrub.proofs.whole.mend_kept.Goals as goal
 
@@ -30,8 +26,7 @@ returns-in-Err-clause-works g c =
     record {
       tally = start;
       ended = Err c.in-Err.fault;
-      works = works_missed layout c.args.write (listed_writes_for layout wants)
-          (listed_count_for layout c.args.write wants)
+      works = works_missed layout c.args.write (listed_writes_for layout wants) (listed_count_for layout c.args.write wants)
           (g.R.Rack.seen c.args.rack.now) (g.R.Rack.seen c.failing_images.new.rack) c.in-Err.ensures.reads
           (Vec Bool Global) start c.in-Err.fault c.in-Err.ensures.account;
       says = c.stop_of.ensures start;
@@ -67,8 +62,7 @@ returns-in-Ok-mend_all-clause-works g c =
     (all_count_for (flagged fs) layout c.args.write layout.chunks c.read_all-blocks.result) b z c.begun.result end (Ok tt))
     c.deref.ensures.value c.in-Ok-mend_all.ensures.works in
     let listed = subst (λ ws. Works {A = Unit {0}} layout c.args.write (all_writes_for kept layout layout.chunks ws)
-    (all_count_for kept layout c.args.write layout.chunks ws) b z c.begun.result end (Ok tt))
-    c.read_all-blocks.ensures flagged_so in
+    (all_count_for kept layout c.args.write layout.chunks ws) b z c.begun.result end (Ok tt)) c.read_all-blocks.ensures flagged_so in
     let begun = subst (λ t. Works {A = Unit {0}} layout c.args.write (all_writes_for kept layout layout.chunks wants)
     (all_count_for kept layout c.args.write layout.chunks wants) b z t end (Ok tt)) c.begun.ensures listed in
     record {
@@ -96,8 +90,7 @@ returns-clause-works g c =
     (all_count_for (flagged fs) layout c.args.write layout.chunks c.read_all-blocks.result) b z c.begun.result end (Err fault))
     c.deref.ensures.value c.in-Err-mend_all.ensures.works in
     let listed = subst (λ ws. Works {A = Unit {0}} layout c.args.write (all_writes_for kept layout layout.chunks ws)
-    (all_count_for kept layout c.args.write layout.chunks ws) b z c.begun.result end (Err fault))
-    c.read_all-blocks.ensures flagged_so in
+    (all_count_for kept layout c.args.write layout.chunks ws) b z c.begun.result end (Err fault)) c.read_all-blocks.ensures flagged_so in
     let begun = subst (λ t. Works {A = Unit {0}} layout c.args.write (all_writes_for kept layout layout.chunks wants)
     (all_count_for kept layout c.args.write layout.chunks wants) b z t end (Err fault)) c.begun.ensures listed in
     record {

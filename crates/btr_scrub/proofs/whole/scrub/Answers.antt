@@ -1,6 +1,5 @@
 use Rattle.std.proofs.Common.{◌<◌, All, arith, sym, ◌∙◌}
-use Rattle.btr_read.proofs.Serving.{serving}
-use Rattle.btr_scrub.specs.Repair.{first_missing}
+use Rattle.btr_scrub.proofs.Common.{first_missing, serving}
 use Rattle.btr_scrub.specs.Scrubbed.{called}
 use Rattle.btr_scrub.proofs.Blockwise.{have_lengths}
 use Rattle.btr_scrub.proofs.Scrubbed.{all_given, is_safe, is_scrubbed, lacks, none_lacks, not_given, slots_stay}

@@ -1,21 +1,12 @@
 use Rattle.std.proofs.Common.{◌+◌, [], Ok, length, drop, refl, sym, ap, ◌∙◌, subst, arith}
-use Rattle.std.proofs.lemmas.List.{take_at}
-use Rattle.std.proofs.lemmas.Result.{err_from_is_err_and}
+use Rattle.btr_scrub.proofs.Common.{AreApart, CanSift, Follows, Layout, begun, drawn, err_from_is_err_and, exec, first_tally, kept_wants, no_part, take_at}
+use Rattle.btr_scrub.proofs.Common.{units_in, unread_by, wants_among}
 use Rattle.btr_scrub_copies.specs.Writes.{AreWritable}
 use Rattle.btr_read.proofs.ReadsOn.{same_slots}
 use Rattle.std.specs.Prelude.{count_by}
-use Rattle.btr_prog.specs.Answers.{Follows, no_part}
-use Rattle.btr_prog.specs.Prog.{exec}
-use Rattle.btr_read.specs.Layout.{Layout}
-use Rattle.btr_walk.specs.Reading.{unread_by}
-use Rattle.btr_walk.proofs.Joined.{drawn}
-use Rattle.btr_scrub.specs.Gathering.{wants_among}
-use Rattle.btr_scrub.specs.Listed.{kept_wants}
-use Rattle.btr_scrub.specs.Order.{AreApart}
 use Rattle.btr_scrub.specs.Repair.{is_unchecked}
-use Rattle.btr_scrub.specs.Sifting.{CanSift, Judges, begun}
-use Rattle.btr_scrub.specs.Units.{units_in}
-use Rattle.btr_scrub.specs.Whole.{Listed, Refused, WorksFrom, first_tally}
+use Rattle.btr_scrub.specs.Sifting.{Judges}
+use Rattle.btr_scrub.specs.Whole.{Listed, Refused, WorksFrom}
 use Rattle.btr_scrub.proofs.Refusing.{not_apart}
 use Rattle.btr_scrub.proofs.Unitwise.{between_apart, units_apart}
 use Rattle.btr_scrub.proofs.KeptWorks.{counts_stand, scrubs_memory, scrubs_stopped, works_kept}
@@ -31,8 +22,7 @@ pub returns-in_err-sieve-clause-scrubs : goal.returns-in_err-sieve-clause-scrubs
 returns-in_err-sieve-clause-scrubs g c =
     let p = err_from_is_err_and c.from_residual.result c.from_residual.ensures.1 in
     rw (p.1, p.2) (scrubs_stopped c.args.vol.now.sup c.args.vol.now.store.layout c.args.write (g.R.Rack.seen c.args.rack.now)
-    (g.R.Rack.seen c.sift_blocks.new.rack) c.in_err-sieve.field-0.0
-    c.in_err-sieve.ensures.reads c.in_err-sieve.ensures.sifts)
+    (g.R.Rack.seen c.sift_blocks.new.rack) c.in_err-sieve.field-0.0 c.in_err-sieve.ensures.reads c.in_err-sieve.ensures.sifts)
 
 pub mend_kept-requires-clause-apart : goal.mend_kept-requires-clause-apart
 mend_kept-requires-clause-apart g c =
@@ -63,8 +53,7 @@ returns-in-Some-clause-scrubs g c =
         refused,
         drawn layout (λ B. Follows (unread_by layout old mid) no_part [] (exec B (units_in s layout.chunks)) is.0 (Ok tt)) (λ B. ⊥)
             (λ B f. not_apart layout 0 (wants_among is.0) fault refused (subst (AreApart layout 0) (ap wants_among (sym f.0))
-            (units_apart s layout c.requires.table c.requires.nodesize (omega (arith, c.requires.large)) B)))
-            is.2,
+            (units_apart s layout c.requires.table c.requires.nodesize (omega (arith, c.requires.large)) B))) is.2,
       );
     }
 
@@ -94,8 +83,7 @@ returns-in-None-clause-scrubs g c =
 
 pub mend_kept-requires-clause-can : goal.mend_kept-requires-clause-can
 mend_kept-requires-clause-can g c =
-    subst (λ (l : Layout). CanSift l c.in_ok-sieve.sieve.sifted)
-    (sym c.in_ok-sieve.ensures.volume.store.layout) c.in_ok-sieve.ensures.sifts.1.can
+    subst (λ (l : Layout). CanSift l c.in_ok-sieve.sieve.sifted) (sym c.in_ok-sieve.ensures.volume.store.layout) c.in_ok-sieve.ensures.sifts.1.can
 
 pub mend_kept-requires-clause-ready : goal.mend_kept-requires-clause-ready
 mend_kept-requires-clause-ready g c =

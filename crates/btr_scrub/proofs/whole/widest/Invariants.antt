@@ -1,6 +1,5 @@
 use Rattle.std.proofs.Common.{◌≡◌, ℕ, ◌<◌, ◌≤◌, Some, None, length, slice_get}
-use Rattle.btr_chunk.specs.Chunk.{mirrors}
-use Rattle.btr_chunk.specs.declared.chunk.Chunk.{Chunk}
+use Rattle.btr_scrub.proofs.Common.{Chunk, mirrors}
 use Rattle.btr_scrub.proofs.whole.widest.Given as goal
 
 abbrev pub invariant-loop-i : goal.invariant-loop-i

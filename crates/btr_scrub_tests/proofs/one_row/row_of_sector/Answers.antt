@@ -13,7 +13,7 @@ use Rattle.btr_scrub_row.specs.Rows.{Row}
 use Rattle.btr_scrub.specs.Repair.{first_missing}
 use Rattle.btr_scrub.proofs.AcrossChunks.{element_stands}
 use Rattle.btr_scrub.proofs.Positions.{is_sought}
-use Rattle.btr_scrub.proofs.RowNumbers.{row_fits, start_there}
+use Rattle.btr_scrub.proofs.RowNumbers.{IsWholeChunk, row_fits, start_there}
 use Rattle.btr_scrub.proofs.Scrubbed.{all_given}
 use Rattle.btr_scrub_tests.proofs.one_row.row_of_sector.Goals as goal
 
@@ -36,19 +36,21 @@ returns-in-Ok-clause-row c =
     let given = all_given (first_missing layout) (sym missing ∙ c.missing_device.ensures.devid) in
     let table = c.missing_device.ensures.table in
     let own = (serving (seen_of c.args.rack.now) c.args.store.now c.requires).own_slots in
+    let whole : IsWholeChunk layout is.number chunk =
+    record { of = record { table = table; there = is.there; parity = parity }; own = own; given = given } in
     let row : Row = record { chunk = chunk; number = c.in-Ok.at.row; blocks = t ∷ []; failing = λ slot. false } in
     let inside : row.number * 65536 + 65536 ≤ stripe_length chunk =
     subst (λ (e : Elements). e.row * 65536 + 65536 ≤ stripe_length chunk) (sym is.at)
-    (row_fits layout table is.number chunk is.there parity c.args.addr is.held) in
+    (row_fits whole.of c.args.addr is.held) in
     record {
       row = row;
       is = record {
         stripe = record {
-          chunk = start_there layout table is.number chunk is.there parity;
+          chunk = start_there whole.of;
           number_is = refl;
           parity = parity;
           inside = inside;
-          stand = λ q part. element_stands (λ slot. false) layout table own given is.number chunk is.there [] row.number q parity inside part;
+          stand = λ q part. element_stands whole (λ slot. false) [] row.number q inside part;
         };
         blocks = ap (λ s. s ∷ []) has;
         lie = All-cons (IsOn row) t [] (record { chunk = refl; number = refl }) (All-nil (IsOn row));

@@ -1,5 +1,5 @@
 use Rattle.std.proofs.Common.{◌≡◌, ◌+◌, ◌*◌, ◌∙◌, ap, arith, length}
-use Rattle.btr_scrub.specs.Pages.{items_in}
+use Rattle.btr_scrub.proofs.Common.{items_in}
 use Rattle.btr_scrub.proofs.Paging.{all_counted}
 use Rattle.btr_scrub.proofs.pages.Pages.len.Goals as goal
 

@@ -1,5 +1,5 @@
 use Rattle.std.proofs.Common.{◌≡◌, ◌≤◌, ◌∷◌, ◌++◌, [], length, OnOk, subst, sym, arith}
-use Rattle.btr_scrub.specs.Pages.{items_in}
+use Rattle.btr_scrub.proofs.Common.{items_in}
 use Rattle.btr_scrub.proofs.Paging.{one_more, pushed_on}
 use Rattle.btr_scrub.proofs.pages.Pages.push.Goals as goal
 
