@@ -91,6 +91,6 @@ abbrev pub AreSteady : Seen → Seen → Type 0
 AreSteady old new = Steady old.account.faults new.account.faults
 
 -- a place is kept: it lies in that of the bytes that are kept, and these are there
-pub record IsKept (kept : KeptBytes) (place : Place) : Type 0 where
+pub record IsPlaceKept (kept : KeptBytes) (place : Place) : Type 0 where
   pub lies : LiesIn place kept.place
   pub room : place.off - kept.place.off + place.len ≤ length kept.bytes

@@ -36,7 +36,7 @@ seen_ahead below account = record below { sure = false; account = account }
 
 -- what is seen of a reader that reads ahead is what is seen of a rack
 pub sound_ahead : (below : Seen) → IsRack below → (account : Account) → IsRack (seen_ahead below account)
-sound_ahead below is account = record { sized = is.sized; bytes = is.bytes; calm = λ e. cc }
+sound_ahead below is account = record { sized = is.sized; bytes = is.bytes; count_left = λ e. cc }
 
 -- one call failed: a read of so many bytes from a place on
 abbrev pub FailsFrom : Place → ℕ → Account → Account → Type 0

@@ -1,7 +1,7 @@
 // Bytes of an image that were read by one read.
 ghost use Rattle.std.specs.Prelude.{◌≡◌, ◌+◌, ◌<◌, ◌≤◌, ◌&&◌, nat_eq, nat_le, nat_lt, false, length, IfSome, IfNone, IsTrue};
 ghost use Rattle.btr_rack.specs.Rack.{NoneFailed, OnlyReads, len_of};
-ghost use Rattle.btr_ahead.specs.Ahead.{AreRead, AreSteady, IsInSlot, IsKept, piece_of};
+ghost use Rattle.btr_ahead.specs.Ahead.{AreRead, AreSteady, IsInSlot, IsPlaceKept, piece_of};
 ghost use Rattle.btr_ahead.specs.Reader.{FailsFrom};
 
 use crate::first_place::FirstPlace;
@@ -72,7 +72,7 @@ impl KeptBytes {
         requires reach { 4096 ≤ first.now.reach }
         ensures reads { OnlyReads (R.seen rack.old) (R.seen rack.new) }
         ensures ahead { AreRead (R.seen rack.new).held self.new }
-        ensures kept { 0 < wanted → AreSteady (R.seen rack.old) (R.seen rack.new) → IsKept self.new first.now.place }
+        ensures kept { 0 < wanted → AreSteady (R.seen rack.old) (R.seen rack.new) → IsPlaceKept self.new first.now.place }
         ensures none { IsTrue result → NoneFailed (R.seen rack.old).account (R.seen rack.new).account }
         ensures failed { result ≡ false → (len : ℕ)
             × (1 < wanted → 4096 < first.now.reach → first.now.place.off + 4096 < len_of (R.seen rack.old).slots first.now.place.slot → 4096 < len)
@@ -94,8 +94,8 @@ impl KeptBytes {
 
     /// The bytes of a place that lies in what is kept.
     pub(crate) fn piece(&self, place: Place) -> Option<&[u8]>
-        ensures inside { IfSome result (λ piece. IsKept self.now place) }
-        ensures none { IfNone result (IsKept self.now place → ⊥) }
+        ensures inside { IfSome result (λ piece. IsPlaceKept self.now place) }
+        ensures none { IfNone result (IsPlaceKept self.now place → ⊥) }
         ensures piece { IfSome result (λ piece. piece.now ≡ piece_of self.now place) }
         ensures long { IfSome result (λ piece. length piece.now ≡ place.len) }
     {
@@ -129,7 +129,7 @@ impl KeptBytes {
         requires ahead { AreRead (R.seen rack.old).held self.old }
         ensures reads { OnlyReads (R.seen rack.old) (R.seen rack.new) }
         ensures ahead { AreRead (R.seen rack.new).held self.new }
-        ensures kept { 0 < wanted → AreSteady (R.seen rack.old) (R.seen rack.new) → IsKept self.new first.now.place }
+        ensures kept { 0 < wanted → AreSteady (R.seen rack.old) (R.seen rack.new) → IsPlaceKept self.new first.now.place }
     {
         if self.piece(first.place).is_some() {
             return;

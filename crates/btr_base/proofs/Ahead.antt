@@ -56,12 +56,14 @@ moved_by (suc a) n u front back =
     ∙ ap (shifted_by 8) (moved_by a n u (λ i lt. front i (omega arith)) back)
     ∙ sym (shifted_by-add (8 * a) 8 (after 8 0 n u)) ∙ ap (λ k. shifted_by k (after 8 0 n u)) sum
 
+-- what is gathered of a sum is the sum of what is gathered of each
 gathered-xor : (es : List ℕ) (u v : ℕ → ℕ) (j : ℕ) → gathered es (λ i. bit_xor (u i) (v i)) j ≡ bit_xor (gathered es u j) (gathered es v j)
 unfolding gathered
 gathered-xor [] u v j = refl
 gathered-xor (e ∷ es) u v j = ap (bit_xor (bit_xor (u (j + e)) (v (j + e)))) (gathered-xor es u v j)
     ∙ exchange (u (j + e)) (v (j + e)) (gathered es u j) (gathered es v j)
 
+-- what is gathered m places further on is gathered of the numbers from place m on
 pub gathered-moved : (es : List ℕ) (u : ℕ → ℕ) (m j : ℕ) → gathered es u (j + m) ≡ gathered es (λ i. u (i + m)) j
 unfolding gathered
 gathered-moved [] u m j = refl
@@ -85,7 +87,8 @@ unfolding gathered
 gathered_none [] u j none = refl
 gathered_none (e ∷ es) u j none = λ i. bit_xor (none (j + e) (omega arith) i) (gathered_none es u j none i)
 
-after-zeros : (n : ℕ) → after 8 0 n (λ j. 0) ≡ 0
+-- bytes of zeros leave the register 0
+pub after-zeros : (n : ℕ) → after 8 0 n (λ j. 0) ≡ 0
 unfolding after
 after-zeros zero = refl
 after-zeros (suc n) = ap (λ r. shifted_by 8 (bit_xor r 0)) (after-zeros n) ∙ shifted_by-zero 8
@@ -117,39 +120,47 @@ front d u i = cond (ltb i d) (u i) 0
 abbrev back : ℕ → (ℕ → ℕ) → ℕ → ℕ
 back d u i = cond (ltb i d) 0 (u i)
 
+-- of 0 and a number that is 0, either is 0
 either_zero : (b : Bool) (x : ℕ) → x ≡ 0 → cond b 0 x ≡ 0
 either_zero true x e = refl
 either_zero false x e = e
 
+-- of 0 and a number of 32 bits, either has 32 bits
 either_fits : (b : Bool) (x : ℕ) → x < 2 ^ 32 → cond b 0 x < 2 ^ 32
 either_fits true x lt = omega arith
 either_fits false x lt = lt
 
+-- a number on one side of a test and 0 on the other add up to the number
 either_sum : (b : Bool) (x : ℕ) → bit_xor (cond b x 0) (cond b 0 x) ≡ x
 either_sum true x = xor_zero_r x
 either_sum false x = xor_zero_l x
 
+-- the numbers at the first d places and those behind them add up to all
 parted : (d : ℕ) (u : ℕ → ℕ) (i : ℕ) → bit_xor (front d u i) (back d u i) ≡ u i
 parted d u i = either_sum (ltb i d) (u i)
 
+-- of the numbers behind the first d places none stands at those places
 back_front : (d : ℕ) (u : ℕ → ℕ) (i : ℕ) → i < d → back d u i ≡ 0
 back_front d u i lt = ap (λ b. cond b 0 (u i)) below
   where
     below : ltb i d ≡ true
     below = grind (arith, nat_tests)
 
+-- at the first d places the front is the numbers themselves
 pub front_in : (d : ℕ) (u : ℕ → ℕ) (i : ℕ) → i < d → front d u i ≡ u i
 front_in d u i lt = ap (λ b. cond b (u i) 0) below
   where
     below : ltb i d ≡ true
     below = grind (arith, nat_tests)
 
+-- past the first d places the front is 0
 pub front_past : (d : ℕ) (u : ℕ → ℕ) (i : ℕ) → d ≤ i → front d u i ≡ 0
 front_past d u i le = ap (λ b. cond b (u i) 0) past
   where
     past : ltb i d ≡ false
     past = grind (arith, nat_tests)
 
+-- where the numbers at the first d places have 32 bits, all of the front have
 pub front_fits : (d : ℕ) (u : ℕ → ℕ) → ((i : ℕ) → i < d → u i < 2 ^ 32) → (i : ℕ) → front d u i < 2 ^ 32
 front_fits d u fits i = elim (cases_lt i d) [
   | inl lt ↦ omega (arith, front_in d u i lt, fits i lt)

@@ -18,12 +18,15 @@ use Rattle.btr_base.proofs.Ahead.{dropped}
 abbrev pub at : List ℕ → ℕ → ℕ
 at xs i = get_or xs i 0
 
+-- the far multiple's exponents below its highest are at most 300
 pub far_within : AreWithin 300 far
 far_within = (omega arith, (omega arith, (omega arith, (omega arith, (omega arith, tt)))))
 
+-- the near multiple's exponents below its highest are at most 144
 pub near_within : AreWithin 144 near
 near_within = (omega arith, (omega arith, (omega arith, (omega arith, (omega arith, (omega arith, (omega arith, tt)))))))
 
+-- what is within a bound is within a greater one
 further : (d e : ℕ) (es : List ℕ) → d ≤ e → AreWithin d es → AreWithin e es
 further d e [] le within = tt
 further d e (x ∷ es) le within = (omega (arith, within.0), further d e es le within.1)
@@ -60,9 +63,11 @@ unfolding gathered
 gathered_fits [] u j fits = omega arith
 gathered_fits (e ∷ es) u j fits = xor_lt 8 (u (j + e)) (gathered es u j) (fits (j + e)) (gathered_fits es u j fits)
 
+-- a byte with what was sent to it from afar is a byte
 pub received_fits : (xs bytes : List ℕ) (j : ℕ) → ((i : ℕ) → at xs i < 2 ^ 8) → ((i : ℕ) → at bytes i < 2 ^ 8) → received xs bytes j < 2 ^ 8
 received_fits xs bytes j fits are_bytes = xor_lt 8 (at bytes j) (sent far xs j) (are_bytes j) (gathered_fits far (at xs) j fits)
 
+-- a kept byte, with what the near multiple sends to it, is a byte
 pub kept_fits : (xs ys bytes : List ℕ) (j k : ℕ) → ((i : ℕ) → at xs i < 2 ^ 8) → ((i : ℕ) → at ys i < 2 ^ 8) → ((i : ℕ) → at bytes i < 2 ^ 8)
     → bit_xor (received xs bytes j) (sent near ys k) < 2 ^ 8
 kept_fits xs ys bytes j k fits nearer_fits are_bytes =
@@ -114,12 +119,15 @@ front_take n xs i = elim (cases_lt i n) [
 abbrev behind : List ℕ → ℕ → ℕ → ℕ
 behind xs n i = front (n + 561) (at xs) (i + n)
 
+-- at the first 561 places stand the numbers from place n on
 behind_in : (xs : List ℕ) (n i : ℕ) → i < 561 → behind xs n i ≡ at xs (n + i)
 behind_in xs n i lt = front_in (n + 561) (at xs) (i + n) (omega arith) ∙ ap (at xs) (omega arith)
 
+-- past the first 561 places there is nothing
 behind_past : (xs : List ℕ) (n i : ℕ) → 561 ≤ i → behind xs n i ≡ 0
 behind_past xs n i le = front_past (n + 561) (at xs) (i + n) (omega arith)
 
+-- the first 561 numbers are the front of a longer front of the list
 fronts : (xs : List ℕ) (n i : ℕ) → at (take 561 xs) i ≡ front 561 (front (n + 561) (at xs)) i
 fronts xs n i = front_take 561 xs i ∙ elim (cases_lt i 561) [
   | inl lt ↦ front_in 561 (at xs) i lt ∙ sym (front_in (n + 561) (at xs) i (omega arith)) ∙ sym (front_in 561 (front (n + 561) (at xs)) i lt)
@@ -168,6 +176,7 @@ folded xs bytes n fits wide sent =
     turn : (j : ℕ) → j + n ≡ n + j
     turn j = omega arith
 
+    -- the numbers behind n are the first 561 of the list without its first n
     moved : (i : ℕ) → behind xs n i ≡ at (take 561 (drop n xs)) i
     moved i = elim (cases_lt i 561) [
       | inl lt ↦ behind_in xs n i lt ∙ sym (get_or-drop n xs i 0) ∙ sym (get_or-take 561 (drop n xs) i 0 lt)
@@ -194,6 +203,7 @@ ended xs bytes n fits wide are_bytes sent zeros lt =
     ∙ sym (register_bytes (after 8 0 576 kept) rest lt (λ i. let P : ℕ → Type 0 = λ x. x
     < 2 ^ 8 in subst P (sym (get_or-drop (n + 576) bytes i 0)) (are_bytes (n + 576 + i))))
   where
+    -- up to 300 places behind each of the next 576 bytes, the numbers behind n are those of the whole list
     there : (j a : ℕ) → j < 576 → a ≤ 300 → behind xs n (j + a) ≡ at xs (n + j + a)
     there j a small le = elim (cases_lt (j + a) 561) [
       | inl lt ↦ behind_in xs n (j + a) lt ∙ ap (at xs) (omega arith)
@@ -203,9 +213,11 @@ ended xs bytes n fits wide are_bytes sent zeros lt =
     turn : (j : ℕ) → j + n ≡ n + j
     turn j = omega arith
 
+    -- each of the next 576 bytes receives the same from the numbers behind n as from the whole list
     same : (j : ℕ) → j < 576 → bit_xor (at bytes (j + n)) (gathered far (behind xs n) j) ≡ received xs bytes (n + j)
     same j small = λ i. bit_xor (at bytes (turn j i)) (gathered-same 300 far (behind xs n) (at xs) j (n + j) far_within (λ a le. there j a small le) i)
 
+    -- behind those 576 bytes nothing is received: the bytes are as they stand in the piece
     later : (j : ℕ) → bit_xor (at bytes (j + 576 + n)) (gathered far (behind xs n) (j + 576)) ≡ at (drop (n + 576) bytes) j
     later j =
         let place : j + 576 + n ≡ n + 576 + j = omega arith in
@@ -236,6 +248,7 @@ kept_left byte ys last fits none sent end long are_bytes lasts =
     turn : (j : ℕ) → j + 400 ≡ 400 + j
     turn j = omega arith
 
+    -- of the first 176 numbers none is set
     nothing : (i : ℕ) → front 176 (at ys) i ≡ 0
     nothing i = elim (cases_lt i 176) [ inl lt ↦ front_in 176 (at ys) i lt ∙ none i lt | inr le ↦ front_past 176 (at ys) i le ]
 
@@ -258,6 +271,7 @@ begun start xs bytes lt wide are_bytes first zeros =
     ap (bit_xor (at bytes (j + 4))) (gathered_none far (at (take 561 xs)) (j + 4) (λ i le. none i (omega arith))) ∙ xor_zero_r (at bytes (j + 4))))
     ∙ sym (after-more 0 4 k all) ∙ ap (λ m. after 8 0 m all) (sym count)
   where
+    -- from the fourth place on the first 561 numbers are 0
     none : (i : ℕ) → 4 ≤ i → at (take 561 xs) i ≡ 0
     none i le = elim (cases_lt i 561) [
       | inl small ↦ get_or-take 561 xs i 0 small ∙ zeros i le small
@@ -267,6 +281,7 @@ begun start xs bytes lt wide are_bytes first zeros =
     here : (j : ℕ) → j + 0 ≡ j
     here j = omega arith
 
+    -- to the first four bytes the bytes of the register at the start are sent
     first_sent : (j : ℕ) → j < 4 → sent far (take 561 xs) j ≡ start / 256 ^ j % 256
     first_sent j small =
         (λ i. bit_xor (at (take 561 xs) (here j i)) (bit_xor (none (j + 154) (omega arith) i) (bit_xor (none (j + 198) (omega arith) i)
@@ -284,6 +299,7 @@ kept_sent xs ys bytes n kept sent j lt =
     same (j + 561) (omega arith) ∙ sent j lt
     ∙ ap (bit_xor (at bytes j)) (gathered-same 300 far (at xs) (at ys) j j far_within (λ a le. sym (same (j + a) (omega arith))))
   where
+    -- the first n + 561 numbers of both lists are the same
     same : (i : ℕ) → i < n + 561 → at ys i ≡ at xs i
     same i small = front_same xs ys (n + 561) i kept small
 
@@ -291,6 +307,7 @@ kept_sent xs ys bytes n kept sent j lt =
 pub fewer : (xs ys : List ℕ) (m n : ℕ) → take (m + n) ys ≡ take (m + n) xs → take n ys ≡ take n xs
 fewer xs ys m n kept = sym (shorter ys) ∙ ap (take n) kept ∙ shorter xs
   where
+    -- the first n of more of the first numbers are the first n
     shorter : (l : List ℕ) → take n (take (m + n) l) ≡ take n l
     shorter l =
         ext_get_or 0 (take n (take (m + n) l)) (take n l) (omega (arith, length-take n (take (m + n) l), length-take (m + n) l, length-take n l))

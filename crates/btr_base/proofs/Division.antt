@@ -15,6 +15,7 @@ xor_assoc false true false = refl
 xor_assoc false false true = refl
 xor_assoc false false false = refl
 
+-- polynomials are added in any grouping
 pub plus_assoc : (p q r : List Bool) → plus (plus p q) r ≡ plus p (plus q r)
 unfolding plus
 plus_assoc [] q r = refl
@@ -22,6 +23,7 @@ plus_assoc (a ∷ p) [] r = refl
 plus_assoc (a ∷ p) (b ∷ q) [] = refl
 plus_assoc (a ∷ p) (b ∷ q) (c ∷ r) = λ i. xor_assoc a b c i ∷ plus_assoc p q r i
 
+-- a sum is as long as the longer polynomial
 pub length-plus : (p q : List Bool) → length p ≤ length q → length (plus p q) ≡ length q
 unfolding plus
 length-plus [] q le = refl
@@ -33,6 +35,7 @@ unfolding xor
 xor_false true = refl
 xor_false false = refl
 
+-- adding the polynomial 0 changes nothing, where it is no longer than the other
 pub plus-zeros : (k : ℕ) (q : List Bool) → k ≤ length q → plus (zeros k) q ≡ q
 unfolding plus
 plus-zeros zero q le = refl
@@ -51,11 +54,13 @@ unfolding xor
 xor_zero true = refl
 xor_zero false = refl
 
+-- a polynomial with zeros of its length added is itself
 pub plus_right_zeros : (p : List Bool) → plus p (zeros (length p)) ≡ p
 unfolding plus
 plus_right_zeros [] = refl
 plus_right_zeros (a ∷ p) = λ i. xor_zero a i ∷ plus_right_zeros p i
 
+-- a polynomial added to as many zeros stands in front of what is behind them
 pub plus_front : (p r : List Bool) (k : ℕ) → length p ≡ k → plus p (zeros k ++ r) ≡ p ++ r
 unfolding plus
 plus_front [] r zero e = refl
@@ -70,12 +75,14 @@ xor_self true false = refl
 xor_self false true = refl
 xor_self false false = refl
 
+-- adding a polynomial twice changes nothing
 pub plus_twice : (p q : List Bool) → length p ≤ length q → plus p (plus p q) ≡ q
 unfolding plus
 plus_twice [] q le = refl
 plus_twice (a ∷ p) [] le = absurd (omega arith)
 plus_twice (a ∷ p) (b ∷ q) le = λ i. xor_self a b i ∷ plus_twice p q (omega arith) i
 
+-- adding the generator or not is adding it once or no times
 scaled_sum : (c : Bool) (g p : List Bool) → length g ≤ length p → cond c (plus g p) p ≡ plus (scaled c g) p
 scaled_sum true g p le = refl
 scaled_sum false g p le = sym (plus-zeros (length g) p le)

@@ -27,6 +27,7 @@ numbers_more step off bytes steps =
     next : (t : ℕ) → step * (t + 1) + off ≡ step + (step * t + off)
     next t = omega (arith, mul-add step t 1, mul-one step)
 
+-- bytes fewer than a step have no numbers
 numbers_none : (step off : ℕ) (bytes : List ℕ) → length bytes / step ≡ 0 → numbers_every step off bytes ≡ []
 unfolding numbers_every
 numbers_none step off bytes none = ap (λ n. map (λ t. number_at 8 (step * t + off) bytes) (range_with_len 0 n)) none

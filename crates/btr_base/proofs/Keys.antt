@@ -10,6 +10,7 @@ pub record IsKey (key : Key) : Type 0 where
   pub kind : key.kind < 256
   pub offset : key.offset < 2 ^ 64
 
+-- keys are ordered as their numbers are
 pub key_cmp-number : (a b : Key) → IsKey a → IsKey b → key_cmp a b ≡ nat_cmp (key_number a) (key_number b)
 key_cmp-number a b p q = grind (arith, common_steps)
 

@@ -24,13 +24,16 @@ summed n f g xs ys a b = record {
   lanes = λ i lt. get_or-zip2 bit_xor xs ys i 0 0 0 (omega (arith, a.long)) (omega (arith, b.long)) ∙ (λ t. bit_xor (a.lanes i lt t) (b.lanes i lt t));
 }
 
+-- a sum of five numbers, in the grouping of what is gathered
 five : (a b c d e : ℕ) → bit_xor (bit_xor (bit_xor (bit_xor a b) c) d) e ≡ bit_xor a (bit_xor b (bit_xor c (bit_xor d (bit_xor e 0))))
 five a b c d e = simp (xor_assoc, xor_zero_r)
 
+-- a sum of seven numbers, in the grouping of what is gathered
 seven : (a b c d e f g : ℕ) → bit_xor (bit_xor (bit_xor (bit_xor (bit_xor (bit_xor a b) c) d) e) f) g
     ≡ bit_xor a (bit_xor b (bit_xor c (bit_xor d (bit_xor e (bit_xor f (bit_xor g 0))))))
 seven a b c d e f g = simp (xor_assoc, xor_zero_r)
 
+-- a block has any lanes that are equal to its own
 pub relaned : (n : ℕ) (f g : ℕ → ℕ) (xs : List ℕ) → ((i : ℕ) → f i ≡ g i) → IsBlock n f xs → IsBlock n g xs
 relaned n f g xs same a = record { long = a.long; lanes = λ i lt. a.lanes i lt ∙ same i }
 
@@ -38,6 +41,7 @@ relaned n f g xs same a = record { long = a.long; lanes = λ i lt. a.lanes i lt 
 abbrev lane : List ℕ → ℕ → ℕ → ℕ → ℕ
 lane xs j e i = get_or xs (j + e + i) 0
 
+-- a byte of a lane is found by its lane first as well as by its distance first
 placed : (xs : List ℕ) (j e i : ℕ) → lane xs j e i ≡ get_or xs (j + i + e) 0
 placed xs j e i = ap (λ k. get_or xs k 0) (omega arith)
 
@@ -64,6 +68,7 @@ far_block n j xs a b c d e room la lb lc ld le =
     (loaded n (j + 214) xs d (omega arith) ld))
     (loaded n (j + 300) xs e room le))
   where
+    -- a distance of 0 is no distance
     first : (i : ℕ) → get_or xs (j + i) 0 ≡ get_or xs (j + i + 0) 0
     first i = ap (λ k. get_or xs k 0) (omega arith)
 

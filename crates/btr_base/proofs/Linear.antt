@@ -13,12 +13,15 @@ twice p a b =
     ap (λ x. bit_xor x (bit_xor p b)) (xor_comm p a) ∙ xor_assoc a p (bit_xor p b)
     ∙ ap (bit_xor a) (sym (xor_assoc p p b) ∙ ap (λ x. bit_xor x b) (xor_self p) ∙ xor_zero_l b)
 
+-- the polynomial is added to the first number of a sum
 left : (p a b : ℕ) → bit_xor p (bit_xor a b) ≡ bit_xor (bit_xor p a) b
 left p a b = sym (xor_assoc p a b)
 
+-- the polynomial is added to the second number of a sum
 right : (p a b : ℕ) → bit_xor p (bit_xor a b) ≡ bit_xor a (bit_xor p b)
 right p a b = sym (xor_assoc p a b) ∙ ap (λ x. bit_xor x b) (xor_comm p a) ∙ xor_assoc a p b
 
+-- the polynomial is added to a sum where just one of two numbers takes it
 by_bits : (p a b : ℕ) (x y : Bool) → cond (xor x y) (bit_xor p (bit_xor a b)) (bit_xor a b) ≡ bit_xor (cond x (bit_xor p a) a) (cond y (bit_xor p b) b)
 unfolding xor
 by_bits p a b true true = sym (twice p a b)
@@ -26,15 +29,18 @@ by_bits p a b true false = left p a b
 by_bits p a b false true = right p a b
 by_bits p a b false false = refl
 
+-- the register of a sum after a bit that is 0 is the sum of the registers
 pub shifted-xor : (a b : ℕ) → shifted (bit_xor a b) ≡ bit_xor (shifted a) (shifted b)
 shifted-xor a b =
     (λ i. cond (low_xor a b i) (bit_xor 0x82F63B78 (xor_shr a b 1 i)) (xor_shr a b 1 i)) ∙ by_bits 0x82F63B78 (a / 2) (b / 2) (eqb (a % 2) 1) (eqb (b % 2) 1)
 
+-- the register of a sum after n bits that are 0 is the sum of the registers
 pub shifted_by-xor : (n a b : ℕ) → shifted_by n (bit_xor a b) ≡ bit_xor (shifted_by n a) (shifted_by n b)
 unfolding shifted_by
 shifted_by-xor zero a b = refl
 shifted_by-xor (suc n) a b = ap (shifted_by n) (shifted-xor a b) ∙ shifted_by-xor n (shifted a) (shifted b)
 
+-- a register of zeros stays one
 pub shifted_by-zero : (n : ℕ) → shifted_by n 0 ≡ 0
 unfolding shifted_by
 shifted_by-zero zero = refl
@@ -46,6 +52,7 @@ unfolding shifted_by
 shifted_by-add zero n reg = let same : 0 + n ≡ n = omega arith in ap (λ k. shifted_by k reg) same
 shifted_by-add (suc m) n reg = let same : suc m + n ≡ suc (m + n) = omega arith in ap (λ k. shifted_by k reg) same ∙ shifted_by-add m n (shifted reg)
 
+-- an even register is halved
 even : (y : ℕ) → shifted (2 * y) ≡ y
 even y =
     let low : 2 * y % 2 ≡ 0 = omega arith in

@@ -21,6 +21,7 @@ exchange a b c d =
     ∙ ap (bit_xor a) (sym (xor_assoc b c d) ∙ ap (λ x. bit_xor x d) (xor_comm b c) ∙ xor_assoc c b d)
     ∙ sym (xor_assoc a c (bit_xor b d))
 
+-- what the exponents make of a sum is the sum of what they make of each
 pub combined-xor : (k : ℕ) (es : List ℕ) (x y : ℕ) → combined k es (bit_xor x y) ≡ bit_xor (combined k es x) (combined k es y)
 unfolding combined
 combined-xor k [] x y = refl
@@ -51,6 +52,7 @@ squared k (e ∷ es) x =
     ∙ cancel (shifted_by (k * e) once) (shifted_by (k * e) rest) (combined k es rest)
     ∙ (λ i. bit_xor ((sym (shifted_by-add (k * e) (k * e) x) ∙ ap (λ n. shifted_by n x) both) i) (squared k es x i))
   where
+    -- what stands in both sums goes out
     cancel : (a b c : ℕ) → bit_xor (bit_xor a b) (bit_xor b c) ≡ bit_xor a c
     cancel a b c = xor_assoc a b (bit_xor b c) ∙ ap (bit_xor a) (sym (xor_assoc b b c) ∙ ap (λ x. bit_xor x c) (xor_self b) ∙ xor_zero_l c)
 
@@ -63,18 +65,22 @@ abbrev vanishes : (ℕ → ℕ) → ℕ → Bool
 vanishes f zero = true
 vanishes f (suc k) = cond (eqb (f 1) 0) (vanishes (λ x. f (2 * x)) k) false
 
+-- a function of a sum is the sum of the function's values
 abbrev Additive : (ℕ → ℕ) → Type 0
 Additive f = (a b : ℕ) → f (bit_xor a b) ≡ bit_xor (f a) (f b)
 
+-- an additive function is 0 at 0
 at_zero : (f : ℕ → ℕ) → Additive f → f 0 ≡ 0
 at_zero f add = ap f (sym (xor_self 0)) ∙ add 0 0 ∙ xor_self (f 0)
 
+-- an additive function that is 0 at 1 is 0 at a bit
 at_bit : (f : ℕ → ℕ) → Additive f → f 1 ≡ 0 → (b : ℕ) → b < 2 → f b ≡ 0
 at_bit f add one zero lt = at_zero f add
 at_bit f add one (suc zero) lt = one
 at_bit f add one (suc (suc b)) lt = absurd (omega arith)
 
-by_test : {P : Type 0} → (b c : Bool) → Decides b P → cond b c false ≡ true → P × (c ≡ true)
+-- where both of two tests hold, what the first one decides holds, and the second test does
+pub by_test : {P : Type 0} → (b c : Bool) → Decides b P → cond b c false ≡ true → P × (c ≡ true)
 by_test true c d e = (d.0 refl, e)
 by_test false c d e = absurd (cc (e))
 
@@ -88,6 +94,7 @@ two_parts x =
     let whole : x / 2 * 2 + x % 2 ≡ x = omega arith in
     sym (λ i. bit_xor (l i) (r i)) ∙ block ∙ (λ i. xor_zero_r (x / 2) i * 2 + xor_zero_l (x % 2) i) ∙ whole
 
+-- twice a sum is the sum of the doubles
 doubled : (a b : ℕ) → 2 * bit_xor a b ≡ bit_xor (2 * a) (2 * b)
 doubled a b =
     let l : a * 2 + 0 ≡ 2 * a = omega arith in
@@ -105,14 +112,17 @@ from_bits f add (suc k) e x lt =
     let high : f (2 * (x / 2)) ≡ 0 = from_bits half (λ a b. ap f (doubled a b) ∙ add (2 * a) (2 * b)) k low.1 (x / 2) (omega (arith, pow-suc 2 k)) in
     ap f (sym (two_parts x)) ∙ add (2 * (x / 2)) (x % 2) ∙ (λ i. bit_xor (high i) (at_bit f add low.0 (x % 2) (omega arith) i))
 
+-- the far multiple vanishes at each of the 32 bits
 far_vanishes : vanishes (combined 1 (561 ∷ far)) 32 ≡ true
 unfolding combined shifted_by
 far_vanishes = refl
 
+-- the near multiple vanishes at each of the 32 bits
 near_vanishes : vanishes (combined 1 (176 ∷ near)) 32 ≡ true
 unfolding combined shifted_by
 near_vanishes = refl
 
+-- with twice its exponents a multiple is one still
 square_vanishes : (es : List ℕ) (k : ℕ) → IsMultiple k es → IsMultiple (k + k) es
 square_vanishes es k vanish x lt = sym (squared k es x) ∙ ap (combined k es) (vanish x lt) ∙ at_zero (combined k es) (combined-xor k es)
 
@@ -121,8 +131,10 @@ by_bytes : (es : List ℕ) → vanishes (combined 1 es) 32 ≡ true → IsMultip
 by_bytes es test =
     square_vanishes es 4 (square_vanishes es 2 (square_vanishes es 1 (from_bits (combined 1 es) (combined-xor 1 es) 32 test)))
 
+-- the far exponents in bytes are those of a multiple of the generator
 pub far_is_multiple : IsMultiple 8 (561 ∷ far)
 far_is_multiple = by_bytes (561 ∷ far) far_vanishes
 
+-- the near exponents in bytes are those of a multiple of the generator
 pub near_is_multiple : IsMultiple 8 (176 ∷ near)
 near_is_multiple = by_bytes (176 ∷ near) near_vanishes

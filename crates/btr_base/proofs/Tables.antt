@@ -8,20 +8,18 @@ use Rattle.std.proofs.Math.Nat.{div-div-eq-div-mul}
 use Rattle.std.specs.Bool.{Decides}
 use Rattle.btr_base.specs.Crc.{shifted_by}
 use Rattle.btr_base.proofs.Linear.{shifted_by-xor, shifted_by-zero, shifted_by-add, shifted_byte_low}
+use Rattle.btr_base.proofs.Multiple.{by_test}
 
 -- each entry from an index on is what the function gives
 abbrev pub fits_from : (ℕ → ℕ) → ℕ → List ℕ → Bool
 fits_from f k [] = true
 fits_from f k (x ∷ xs) = cond (eqb x (f k)) (fits_from f (k + 1) xs) false
 
-both : {P : Type 0} → (b c : Bool) → Decides b P → cond b c false ≡ true → P × (c ≡ true)
-both true c d e = (d.0 refl, e)
-both false c d e = absurd (cc (e))
-
+-- where all entries fit a function, each entry is its value
 pub entry_from : (f : ℕ → ℕ) (k : ℕ) (xs : List ℕ) (i : ℕ) → fits_from f k xs ≡ true → i < length xs → get_or xs i 0 ≡ f (k + i)
 entry_from f k [] i fits lt = absurd (omega arith)
-entry_from f k (x ∷ xs) zero fits lt = (both (eqb x (f k)) (fits_from f (k + 1) xs) (Decides-eqb x (f k)) fits).0 ∙ ap f (omega arith)
-entry_from f k (x ∷ xs) (suc i) fits lt = entry_from f (k + 1) xs i (both (eqb x (f k)) (fits_from f (k + 1) xs) (Decides-eqb x (f k)) fits).1
+entry_from f k (x ∷ xs) zero fits lt = (by_test (eqb x (f k)) (fits_from f (k + 1) xs) (Decides-eqb x (f k)) fits).0 ∙ ap f (omega arith)
+entry_from f k (x ∷ xs) (suc i) fits lt = entry_from f (k + 1) xs i (by_test (eqb x (f k)) (fits_from f (k + 1) xs) (Decides-eqb x (f k)) fits).1
     (omega arith) ∙ ap f (omega arith)
 
 -- each table from a number on has 256 entries, the registers after that many bytes of zeros and one more
@@ -29,23 +27,28 @@ abbrev pub tables_from : ℕ → List (List ℕ) → Bool
 tables_from n [] = true
 tables_from n (t ∷ ts) = cond (eqb (length t) 256) (cond (fits_from (shifted_by (8 * (n + 1))) 0 t) (tables_from (n + 1) ts) false) false
 
+-- an entry of a good table is the register of its index after the table's number of zero bytes and one more
 pub table_from : (n : ℕ) (ts : List (List ℕ)) (k i : ℕ) → tables_from n ts ≡ true → k < length ts → i < 256 → get_or (get_or ts k []) i 0
     ≡ shifted_by (8 * (n + k + 1)) i
 table_from n [] k i fits lt small = absurd (omega arith)
 table_from n (t ∷ ts) zero i fits lt small =
-    let sized = both (eqb (length t) 256) (cond (fits_from (shifted_by (8 * (n + 1))) 0 t) (tables_from (n + 1) ts) false) (Decides-eqb (length t) 256) fits in
+    let sized =
+    by_test (eqb (length t) 256) (cond (fits_from (shifted_by (8 * (n + 1))) 0 t) (tables_from (n + 1) ts) false) (Decides-eqb (length t) 256) fits in
     let long : i < length t = omega (arith, sized.0) in
     entry_from (shifted_by (8 * (n + 1))) 0 t i (front (fits_from (shifted_by (8 * (n + 1))) 0 t) (tables_from (n + 1) ts) sized.1) long
     ∙ ap (shifted_by (8 * (n + 1))) (omega arith) ∙ ap (λ m. shifted_by (8 * (m + 1)) i) (omega arith)
   where
+    -- of two tests that hold the first holds
     front : (b c : Bool) → cond b c false ≡ true → b ≡ true
     front true c e = refl
     front false c e = absurd (cc (e))
 table_from n (t ∷ ts) (suc k) i fits lt small =
-    let sized = both (eqb (length t) 256) (cond (fits_from (shifted_by (8 * (n + 1))) 0 t) (tables_from (n + 1) ts) false) (Decides-eqb (length t) 256) fits in
+    let sized =
+    by_test (eqb (length t) 256) (cond (fits_from (shifted_by (8 * (n + 1))) 0 t) (tables_from (n + 1) ts) false) (Decides-eqb (length t) 256) fits in
     table_from (n + 1) ts k i (behind (fits_from (shifted_by (8 * (n + 1))) 0 t) (tables_from (n + 1) ts) sized.1) (omega arith) small
     ∙ ap (λ m. shifted_by (8 * (m + 1)) i) (omega arith)
   where
+    -- of two tests that hold the second holds
     behind : (b c : Bool) → cond b c false ≡ true → c ≡ true
     behind true c e = e
     behind false c e = absurd (cc (e))
@@ -62,6 +65,7 @@ split_byte n m x next =
 next_byte : (n m k x : ℕ) → n ≡ m + 1 → shifted_by (8 * n) (x / 2 ^ k) ≡ bit_xor (shifted_by (8 * n) (x / 2 ^ k % 256)) (shifted_by (8 * m) (x / 2 ^ (k + 8)))
 next_byte n m k x next = split_byte n m (x / 2 ^ k) next ∙ ap (λ y. bit_xor (shifted_by (8 * n) (x / 2 ^ k % 256)) (shifted_by (8 * m) y)) (halves k)
   where
+    -- dropping k bits and a byte is dropping k + 8 bits
     halves : (k : ℕ) → x / 2 ^ k / 256 ≡ x / 2 ^ (k + 8)
     halves k = div-div-eq-div-mul x (2 ^ k) 256 ∙ ap (λ d. x / d) (sym (pow-add 2 k 8))
 
@@ -93,7 +97,7 @@ pub word_by_bytes : (z x : ℕ) → x < 2 ^ 32 → bit_xor (bit_xor (bit_xor
     ≡ shifted_by (32 * (z + 1)) x
 word_by_bytes z x lt = let whole : 8 * (4 * z + 3 + 1) ≡ 32 * (z + 1) = omega arith in by_bytes (4 * z) x lt ∙ ap (λ k. shifted_by k x) whole
 
--- a word behind a register, with m bits of zeros behind both
+-- a word behind a register, with m bits of zeros behind by_test
 taken : (m reg word : ℕ) → bit_xor (shifted_by (32 + m) reg) (shifted_by m word) ≡ shifted_by m (bit_xor (shifted_by 32 reg) word)
 taken m reg word = ap (λ r. bit_xor r (shifted_by m word)) (shifted_by-add 32 m reg) ∙ sym (shifted_by-xor m (shifted_by 32 reg) word)
 

@@ -23,6 +23,7 @@ register_more reg i bytes lt in_range fits = sym (at_drop_more (register reg) by
 pub register_all : (reg i : ℕ) (bytes : List ℕ) → reg < 2 ^ 32 → length bytes ≤ i → reg ≡ register reg (drop i bytes)
 register_all reg i bytes lt past = sym (register-nil reg lt) ∙ sym (at_drop_all (register reg) bytes i past)
 
+-- without its first byte a list's numbers stand one place earlier
 little_from-cons : (i n b : ℕ) (bytes : List ℕ) → little_from (suc i) n (b ∷ bytes) ≡ little_from i n bytes
 little_from-cons i zero b bytes = refl
 little_from-cons i (suc n) b bytes = ap (λ x. get_or bytes i 0 + 256 * x) (little_from-cons (suc i) n b bytes)
@@ -55,6 +56,7 @@ register_number (suc n) reg (b ∷ bytes) lt le fits =
 taken_lt : (size reg number : ℕ) → reg < 2 ^ 32 → number < 2 ^ 32 → shifted_by size (bit_xor reg number) < 2 ^ 32
 taken_lt size reg number lt fits = shifted_by_lt size (bit_xor reg number) (xor_lt 32 reg number lt fits)
 
+-- a register and numbers of 32 bits leave a register of 32 bits
 pub after_lt : (size reg n : ℕ) (number : ℕ → ℕ) → reg < 2 ^ 32 → ((j : ℕ) → number j < 2 ^ 32) → after size reg n number < 2 ^ 32
 unfolding after
 after_lt size reg zero number lt fits = lt
@@ -105,6 +107,7 @@ after_start (suc n) reg h byte lt =
     (λ j. bit_xor (byte (suc j)) (higher j i % 256)))
     ∙ sym (after_first 8 reg n (λ j. bit_xor (byte j) (h / 256 ^ j % 256)))
   where
+    -- a number without its low byte, j places up, is the number j + 1 places up
     higher : (j : ℕ) → h / 256 / 256 ^ j ≡ h / 256 ^ suc j
     higher j = div-div-eq-div-mul h 256 (256 ^ j) ∙ ap (λ n. h / n) (mul_comm 256 (256 ^ j) ∙ sym (pow-suc 256 j))
 

@@ -135,6 +135,7 @@ is_leaf_at block some level =
       | false ↦ λ is. absurd (false≢true (subst (λ inner. IsSome (cond inner (Some (Inner (pointers block))) None)) (inner_leaf block level) is))
     ] some
 
+-- a block that holds something and has another level than 0 is an inner node
 pub is_inner_at : (block : List ℕ) → IsSome (node_of block) → (level_of block ≡ 0 → ⊥) → IsTrue (is_inner block)
 is_inner_at block some level =
     let other : IsSome (cond (is_inner block) (Some (Inner (pointers block))) None) =

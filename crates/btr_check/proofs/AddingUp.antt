@@ -1,41 +1,41 @@
 -- Trees of files that differ little from sound ones.
-use Rattle.std.proofs.Common.{◌≡◌, ℕ, ◌-◌, ◌++◌, Bool, true, List, [], ◌∷◌, Ok, Some, filter_map, fold, refl, sym, ap, ◌∙◌, subst}
+use Rattle.std.proofs.Common.{◌≡◌, ◌-◌, ◌++◌, true, List, [], ◌∷◌, Ok, filter_map, fold, refl, sym, ap, ◌∙◌, subst}
 use Rattle.btr_check_differences.specs.declared.inode_range.InodeRange.{InodeRange}
 use Rattle.btr_check_differences.specs.Differing as differing
-use Rattle.btr_check_differences.specs.Law.{AlikeLaw, AreAlike, AreCompared, MissingLaw, NothingMissing, is_own}
+use Rattle.btr_check_differences.specs.Law.{AlikeLaw, AreAlike, MissingLaw, NothingMissing, is_own}
 use Rattle.btr_check_differences.specs.Ranges.{are_apart}
 use Rattle.btr_check_differences.specs.Reading as reading
-use Rattle.btr_check_names.specs.Differences.{DifferenceLaw, IsSettledBy, compared_of, items_of}
+use Rattle.btr_check_names.specs.Differences.{DifferenceLaw, IsSettledBy, compared_of}
 use Rattle.btr_check_names.specs.Names.{names_findings, names_in}
 use Rattle.btr_check_names.specs.Settled.{AreSettled, SettledLaw}
 use Rattle.btr_check_names.specs.declared.unpaired.Unpaired.{Unpaired}
 use Rattle.btr_check_names.specs.Unpaired.{are_paired, are_whole, compared, unpaired_of, unpaired_step}
 use Rattle.btr_check_space.specs.declared.address_ranges.AddressRange.{AddressRange}
-use Rattle.btr_check_sums.specs.Items.{KeepsUses, UsesMet, loose_in, used_in, uses_step}
+use Rattle.btr_check_sums.specs.Items.{KeepsUses, UsesMet, loose_in, used_in}
 use Rattle.btr_check_sums.specs.Sums.{tree_missing}
 use Rattle.btr_rack.specs.Rack.{Seen}
 use Rattle.btr_read.specs.Store.{Blocks}
-use Rattle.btr_tour.specs.Tour.{Mark, items_met}
+use Rattle.btr_tour.specs.Tour.{items_met}
 use Rattle.btr_volume.specs.declared.root.TreeRoot.{TreeRoot}
 use Rattle.btr_volume.specs.declared.volume.Volume.{Volume}
 use Rattle.btr_walk.proofs.Joined.{drawn}
-use Rattle.btr_walk.specs.Le.{TreeItem}
 use Rattle.btr_walk.specs.Reading.{Map}
-use Rattle.btr_walk.specs.declared.spot.Spot.{Spot}
+use Rattle.btr_walk.specs.declared.block_pointer.BlockPointer.{BlockPointer}
 use Rattle.btr_check.specs.Data.{sum_runs}
 use Rattle.btr_check.specs.Differing.{ArePairedBy, CanCompare, Differ, IsSoundBy, IsWholeAlone, OfNone, AddUp, own_marks}
 use Rattle.btr_check.specs.Families.{AreSumRanges}
 use Rattle.btr_check.specs.FileTrees.{ArePairedHere, IsSoundAlone, file_step, missing_findings, names_of, nothing_met}
 use Rattle.btr_check.specs.Filesystem.{Filesystem}
 use Rattle.btr_check.specs.Running.{Ran, filesystem, world}
-use Rattle.btr_check.specs.SoundTrees.{AreBelow, IsKeptOf, items_below}
+use Rattle.btr_check.specs.SoundTrees.{AreBelow, items_below}
 use Rattle.btr_check.specs.Trees.{items_in}
 use Rattle.btr_check.specs.declared.file_tree.FileTree.{FileTree}
 use Rattle.btr_check.specs.declared.sound_tree.RootedTree.{RootedTree}
 use Rattle.btr_check.specs.declared.sound_tree.SoundTree.{SoundTree}
 use Rattle.btr_check.proofs.FileTrees.{file_folded}
 use Rattle.btr_check.proofs.Runs.{less_told}
-use Rattle.btr_check.proofs.SoundTrees.{both_none, missing_same}
+use Rattle.btr_check.proofs.SoundTrees.{missing_same}
+use Rattle.btr_check_differences.proofs.Missing.{both_none}
 
 -- what was read of a store was read of its volume
 pub ran_read : {A : Type 0} (P : Map → Type 0) (S : Filesystem → Type 0) (rack rack' : Seen) (vol : Volume) (store : Blocks) (a : A)
@@ -53,10 +53,10 @@ ran_read P S rack rack' vol store a one f = record {
 
 module _ (fs : Filesystem) where
   -- where a tree has blocks below its root, its items are theirs
-  some_below : (tree : TreeRoot) (spots : List Spot) → (spots ≡ [] → ⊥) → AreBelow fs tree spots
-      → items_in fs.blocks tree ≡ items_below fs (tree.place.level - 1) spots
+  some_below : (tree : TreeRoot) (block_pointers : List BlockPointer) → (block_pointers ≡ [] → ⊥) → AreBelow fs tree block_pointers
+      → items_in fs.blocks tree ≡ items_below fs (tree.place.level - 1) block_pointers
   some_below tree [] some below = absurd (some refl)
-  some_below tree (spot ∷ spots) some below = below
+  some_below tree (pointer ∷ block_pointers) some below = below
 
   -- what was met of a tree alone
   pub whole_alone : KeepsUses → (sums : List AddressRange) (rooted : RootedTree) (ranges : List InodeRange) (met : FileTree)

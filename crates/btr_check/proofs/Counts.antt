@@ -25,15 +25,18 @@ all_at P [] i d below all = absurd (omega arith)
 all_at P (x ∷ xs) zero d below all = all.0
 all_at P (x ∷ xs) (suc i) d below all = all_at P xs i d (omega arith) all.1
 
+-- as many as a list has, or more, taken from its front are all of it
 take_all : {X : Type 0} (xs : List X) (i : ℕ) → length xs ≤ i → take i xs ≡ xs
 take_all [] zero long = refl
 take_all [] (suc i) long = refl
 take_all (x ∷ xs) zero long = absurd (omega arith)
 take_all (x ∷ xs) (suc i) long = ap (λ l. x ∷ l) (take_all xs i (omega arith))
 
+-- a want comes to one block, and so to the same bytes
 same_bytes : (a b : List ℕ) (r : Result (List ℕ) Fault) → r ≡ Ok a → r ≡ Ok b → a ≡ b
 same_bytes a b r e f = cc
 
+-- where a block that was met stands
 abbrev at : Reached → RootPlace
 at one = one.place
 
@@ -48,19 +51,24 @@ module _ (B : Map) where
       (same_bytes bytes block (B want) (block_is store loan bytes (λ b. B want ≡ Ok b) held came) (same block there))
 
 module _ (B : Map) (places : List RootPlace) (full : BTreeSet ℕ) (old : Tally) where
+  -- before the first block nothing is counted
   pub counted_none : CountedTo B 0 places full old old
   counted_none blocks same there extents is = refl
 
   module _ (i : ℕ) (none : RootPlace) (below : i < length places) (blocks : List Reached) (same : places ≡ places_of B blocks) where
+    -- the block that is counted next
     abbrev one : Reached
     one = get_or blocks i (record { place = none; block = [] })
 
+    -- there are as many blocks as places, and so one at this place
     inside : i < length blocks
     inside = let e : length places ≡ length blocks = ap length same ∙ length-map blocks at in omega arith
 
+    -- the next place is where the next block stands
     place_is : get_or places i none ≡ one.place
     place_is = ap (λ l. get_or l i none) same ∙ get_or-map at blocks i (record { place = none; block = [] }) none inside
 
+    -- the next block is the one at the next place
     is_there : AreThere B blocks → IsBlock B (get_or places i none) one.block
     is_there there = subst (λ p. IsBlock B p one.block) (sym place_is)
         (all_at (λ (r : Reached). IsBlock B r.place r.block) blocks i (record { place = none; block = [] }) inside there)
@@ -101,5 +109,6 @@ module _ (B : Map) (begun : Tally) (trees : List TreeRoot) (places : List RootPl
       counts blocks same there extents is ∙ ap (λ u. fold tally_with u (flat_map (uses_of extents) blocks)) by_roots
       ∙ sym (fold-append tally_with begun (map root_use trees) (flat_map (uses_of extents) blocks))
 
+  -- where the count of what blocks use stops, so does that of all uses
   pub uses_stop : (roots all : Tally) (stop : Stop) → BlocksCount B places full roots all (Err stop) → UsesCount B begun trees places full (Err stop)
   uses_stop roots all stop counts blocks same there extents is = counts blocks same there extents is

@@ -1,8 +1,8 @@
 -- Sectors that are looked up and read, one after another.
-use Rattle.std.proofs.Common.{◌≡◌, ℕ, zero, suc, ◌+◌, ◌*◌, ◌/◌, ◌%◌, ◌<◌, nat_lt, eqb, ◌≤◌, ◌^◌, Bool, true, false, ◌&&◌, List, [], ◌∷◌, ◌++◌, length, take}
+use Rattle.std.proofs.Common.{◌≡◌, ℕ, zero, suc, ◌+◌, ◌*◌, ◌/◌, ◌%◌, ◌<◌, nat_lt, eqb, ◌≤◌, ◌^◌, Bool, true, false, ◌&&◌, List, [], ◌∷◌, length, take}
 use Rattle.std.proofs.Common.{get_or, filter_map, flat_map, Option, Some, None, IfSome, IsSomeAnd, Result, Ok, Err, is_ok, refl, sym, ap, ◌∙◌, subst, arith}
 use Rattle.std.proofs.lemmas.Bool.{ltb-true}
-use Rattle.std.proofs.lemmas.List.Elements.{Contains-append_left, Contains-append_right, Contains-get_or, filter_map-append}
+use Rattle.std.proofs.lemmas.List.Elements.{Contains-append_left, Contains-append_right, Contains-get_or}
 use Rattle.std.specs.List.{AllByRecursion, Contains, cons_option}
 use Rattle.std.specs.Prelude.{slice_get}
 use Rattle.btr_base.specs.declared.kind.SumKind.{SumKind}
@@ -48,9 +48,7 @@ use Rattle.btr_findings.proofs.Adding.{adds_as, adds_more}
 use Rattle.btr_findings.specs.declared.kind.Kind.TheVariants as kind
 use Rattle.btr_findings.specs.Findings.{Adds, found, unless, FoundSet}
 use Rattle.btr_findings.specs.declared.finding.Finding.{Finding}
-use Rattle.std.proofs.lemmas.List.FromFn.{length-map-range_with_len, get_or-map-range_with_len}
 use Rattle.btr_check_sums.specs.Ranks.{run_end}
-use Rattle.btr_findings.specs.Sectors.{sectors}
 use Rattle.btr_check_sums.specs.Sums.{run_sectors}
 use Rattle.std.proofs.lemmas.List.{take_all}
 use Rattle.std.specs.Option.{option_to_list}
@@ -59,11 +57,13 @@ use Rattle.btr_check.proofs.Runs.{fault_more}
 use Rattle.btr_check.proofs.Wants.{fault_wanted, first_in, named_in}
 use Rattle.btr_check.specs.Running.{FaultUnread, IsUnreadOf, StopUnread, OfReading, is_outside}
 use Rattle.btr_check.specs.Wanted.{OfSector}
+use Rattle.btr_check_sums.proofs.Sectors.{sectors_long, sector_at, rows_of}
 
--- the stop of a block that could not be read
+-- stops that two answers have alike are the same
 same_stop : (a b : Stop) → Some a ≡ Some b → a ≡ b
 same_stop a b e = cc
 
+-- what holds of the block that a fault says could not be read holds of the one that its stop says
 pub stop_unread : (P : UnreadBlock → Type 0) (f : TreeFault) (stop : Stop) → unread_stop f ≡ Some stop → FaultUnread P f → StopUnread P stop
 stop_unread P (Lost addr) stop e h = cc
 stop_unread P (Unread addr slot) stop e h = subst (StopUnread P) (same_stop (stops.Tree (Unread addr slot)) stop e) h
@@ -71,6 +71,7 @@ stop_unread P (Unmapped addr) stop e h = cc
 stop_unread P (Crosses addr) stop e h = cc
 stop_unread P (Malformed addr) stop e h = cc
 
+-- a run that comes to the bytes of a block
 abbrev Bytes : Type 0
 Bytes = Run Want fate.Fault ⊥ (List ℕ)
 
@@ -80,12 +81,15 @@ given_ok (Ok bytes) = refl
 given_ok (Err fault) = refl
 
 module _ (fs : Filesystem) (sums : Option TreeRoot) (sector : ℕ) where
+  -- the look-up of the sector's checksum
   abbrev looked : Run Want fate.Fault ⊥ (Option Sum)
   looked = exec fs.blocks (sum_at (kind_of_sums fs) sums sector)
 
+  -- the read of the sector by its checksum, or without one
   abbrev by_sum : Option Sum → Bytes
   by_sum sum = exec fs.blocks (Need (want_by sector sum) Return)
 
+  -- a sector is readable where its look-up, and then its read, come to an answer
   is_bind : is_readable fs sums sector ≡ is_ok (and_then looked by_sum).ending
   is_bind = ap (λ (r : Bytes). is_ok r.ending) (exec-bind fs.blocks (sum_at (kind_of_sums fs) sums sector) (λ sum. Need (want_by sector sum) Return))
 
@@ -112,6 +116,7 @@ module _ (fs : Filesystem) (sums : Option TreeRoot) (sector : ℕ) where
   look_wanted want (Err fault) is h =
       subst (λ ws. Contains ws want) (sym (needs-stop fs.blocks (sum_at (kind_of_sums fs) sums sector) (λ sum. Need (want_by sector sum) Return) fault is)) h
 
+  -- where a block could not be read in the look-up of a sector's checksum, it is a want of the sector
   pub look_unread : (Is : UnreadBlock → Want → Type 0) (f : TreeFault) (stop : Stop) → unread_stop f ≡ Some stop
       → Follows Is no_part [] looked [] (answer_of (Err f)) → StopUnread (λ u. (want : Want) × OfSector sums sector fs want × Is u want) stop
   look_unread Is f stop e h = stop_unread (λ u. (want : Want) × OfSector sums sector fs want × Is u want) f stop e
@@ -119,6 +124,7 @@ module _ (fs : Filesystem) (sums : Option TreeRoot) (sector : ℕ) where
       (λ u named. let one = named_in Is u (wants_of looked.marks) named in (one.0, look_wanted one.0 looked.ending refl one.1, one.2)) f
       (fault_wanted Is looked [] f h))
 
+  -- where the look-up comes to a fault the sector isn't readable
   not_read : (fault : fate.Fault) → looked.ending ≡ Err fault → ReadsBy fs sums sector None
   not_read fault is = is_bind ∙ ap (λ (r : Bytes). is_ok r.ending) (after-err looked fault by_sum is)
 
@@ -131,10 +137,12 @@ module _ (fs : Filesystem) (sums : Option TreeRoot) (sector : ℕ) where
     refl,
   )
 
+  -- a sector is wanted by what the look-up of its checksum answered
   pub found_by : (Is : UnreadBlock → Want → Type 0) (sum : Option Sum) (want : Want) → want ≡ want_by sector sum
       → Follows Is no_part [] looked [] (answer_of (Ok sum)) → ReadsBy fs sums sector (Some want)
   found_by Is sum want same h = (sum, h.1, same)
 
+  -- where the look-up ends with a fault, but for a block that could not be read, the sector isn't readable
   pub fault_by : (Is : UnreadBlock → Want → Type 0) (f : TreeFault) → unread_stop f ≡ None → Follows Is no_part [] looked [] (answer_of (Err f))
       → ReadsBy fs sums sector None
   fault_by Is (Lost addr) e h = not_read (fate.Lost addr) h.1
@@ -150,6 +158,7 @@ not_kept sum o P none some = cc
 pub none_kept : (B : Map) (sums : Option TreeRoot) (ahead : SumsAhead) → ((addr : ℕ) → kept_sum ahead addr ≡ None) → IsSummed B sums ahead
 none_kept B sums ahead none = λ other sum kept. not_kept sum (kept_sum ahead other) _ (none other) kept
 
+-- the stop of a block that could not be read may come at any place
 pub stop_outside : (f : TreeFault) (stop : Stop) → unread_stop f ≡ Some stop → is_outside stop ≡ true
 stop_outside (Lost addr) stop e = cc
 stop_outside (Unread addr slot) stop e = ap is_outside (sym (same_stop (stops.Tree (Unread addr slot)) stop e))
@@ -157,6 +166,7 @@ stop_outside (Unmapped addr) stop e = cc
 stop_outside (Crosses addr) stop e = cc
 stop_outside (Malformed addr) stop e = cc
 
+-- the stop of a block that could not be read is one of a call that only reads blocks
 pub stop_reading : (f : TreeFault) (stop : Stop) → unread_stop f ≡ Some stop → OfReading stop
 stop_reading (Lost addr) stop e = cc
 stop_reading (Unread addr slot) stop e = subst OfReading (same_stop (stops.Tree (Unread addr slot)) stop e) tt
@@ -169,14 +179,17 @@ tells_images : (layout : Layout) (old new : Seen) (P : Map → Type 0) → OnlyR
     → Tells layout old new P
 tells_images layout old new P reads h = record { calls = record { same = same_held reads; later = reads.later; content = λ sure steady. h sure } }
 
+-- what follows from what holds of the images holds of them, where they are told
 held_as : (held : Option (List (List ℕ))) (P Q : List (List ℕ) → Type 0) → ((images : List (List ℕ)) → P images → Q images) → IfSome held P → IfSome held Q
 held_as None P Q f h = tt
 held_as (Some images) P Q f h = f images h
 
+-- what holds of any images holds of these, where they are told
 held_all : (held : Option (List (List ℕ))) (Q : List (List ℕ) → Type 0) → ((images : List (List ℕ)) → Q images) → IfSome held Q
 held_all None Q f = tt
 held_all (Some images) Q f = f images
 
+-- this says whether a want comes to bytes
 abbrev CanRead : Want → Bool → Map → Type 0
 CanRead want can B = can ≡ is_ok (B want)
 
@@ -184,10 +197,12 @@ CanRead want can B = can ≡ is_ok (B want)
 none_contained : (bytes : List ℕ) → Contains [] bytes → ⊥
 none_contained bytes h = let below : h.0 < 0 = h.1 in omega (arith, below)
 
+-- where bytes of some copy pass, the block isn't lost
 first_passes : (xs : List (List ℕ)) (bytes : List ℕ) (addr : ℕ) → Contains xs bytes → true ≡ is_ok (or_lost addr (slice_get xs 0))
 first_passes [] bytes addr h = absurd (none_contained bytes h)
 first_passes (x ∷ xs) bytes addr h = refl
 
+-- where bytes of some copy pass, the want comes to bytes
 some_passes : (images : List (List ℕ)) (addr : ℕ) (r : Result Target fate.Fault) (bytes : List ℕ) → Contains (passing_for images r) bytes
     → true ≡ is_ok (fate_of images addr r)
 some_passes images addr (Err fault) bytes h = absurd (none_contained bytes h)
@@ -250,12 +265,6 @@ sector_adds fs sums sector can row old new same adds is =
     adds_as (option_to_list (unless can row)) (option_to_list (data_lost fs sums sector)) old new
     (ap (λ f. option_to_list (unless can f)) same ∙ ap (λ b. option_to_list (unless b (found kind.DataLost (sector ∷ [])))) is) adds
 
-sectors_long : (start count : ℕ) → length (sectors start count) ≡ count
-sectors_long start count = length-map-range_with_len (λ i. start + i * 4096) 0 count
-
-sector_at : (start count i : ℕ) → i < count → get_or (sectors start count) i 0 ≡ start + i * 4096
-sector_at start count i below = get_or-map-range_with_len (λ i. start + i * 4096) 0 count i i 0 below (omega arith)
-
 -- the sectors of a run, one more
 pub run_more : (fs : Filesystem) (sums : Option TreeRoot) (run : SumRun) (i : ℕ) (sector : ℕ) (a b c : FoundSet) → i < run.count → sector ≡ run.start + i * 4096
     → Adds (filter_map (data_lost fs sums) (take i (run_sectors run))) a b → Adds (option_to_list (data_lost fs sums sector)) b c
@@ -274,6 +283,7 @@ sector_in run i sector below is =
     let at : get_or (run_sectors run) i 0 ≡ run.start + i * 4096 = sector_at run.start run.count i below in
     subst (Contains (run_sectors run)) (at ∙ sym is) (Contains-get_or (run_sectors run) i 0 (omega (arith, long, below)))
 
+-- the sectors of a run up to its count are all of it
 pub run_all : (fs : Filesystem) (sums : Option TreeRoot) (run : SumRun) (i : ℕ) (a b : FoundSet) → run.count ≤ i
     → Adds (filter_map (data_lost fs sums) (take i (run_sectors run))) a b → Adds (filter_map (data_lost fs sums) (run_sectors run)) a b
 run_all fs sums run i a b end h =
@@ -285,21 +295,19 @@ run_all fs sums run i a b end h =
 abbrev pub IsLow : SumRun → Type 0
 IsLow run = run_end run < 2 ^ 64
 
+-- all of these runs end below 2^64
 abbrev pub AreLow : List SumRun → Type 0
 AreLow runs = AllByRecursion IsLow runs
 
+-- each one of runs that end below 2^64 does so
 pub low_at : (runs : List SumRun) (i : ℕ) (d : SumRun) → i < length runs → AreLow runs → IsLow (get_or runs i d)
 low_at [] i d below all = absurd (omega arith)
 low_at (x ∷ xs) zero d below all = all.0
 low_at (x ∷ xs) (suc i) d below all = low_at xs i d (omega arith) all.1
 
+-- which sectors of a run aren't readable
 abbrev pub run_findings : Filesystem → Option TreeRoot → SumRun → List Finding
 run_findings fs sums run = filter_map (data_lost fs sums) (run_sectors run)
-
-rows_of : {X Y Z : Type 0} (rule : Y → Option Z) (make : X → List Y) (xs : List X) → flat_map (λ x. filter_map rule (make x)) xs ≡ filter_map rule
-    (flat_map make xs)
-rows_of rule make [] = refl
-rows_of rule make (x ∷ xs) = ap (λ l. filter_map rule (make x) ++ l) (rows_of rule make xs) ∙ sym (filter_map-append rule (make x) (flat_map make xs))
 
 -- all runs of the checksum tree
 pub data_all : (fs : Filesystem) (sums : Option TreeRoot) (list : List SumRun) (i : ℕ) (a b : FoundSet) → length list ≤ i → list ≡ sum_runs fs
@@ -318,6 +326,7 @@ low_if : (b : Bool) (run : SumRun) (rest : List SumRun) → (b ≡ true → IsLo
 low_if true run rest low all = (low refl, all)
 low_if false run rest low all = all
 
+-- the runs of checksums in items end below 2^64
 runs_low : (kind : SumKind) (items : List TreeItem) → AreLow (runs_in kind items)
 runs_low kind [] = tt
 runs_low kind (item ∷ items) =
@@ -330,5 +339,6 @@ runs_low kind (item ∷ items) =
     low_if (typed && key && some && whole && low) (record { start = item.key.offset; count = count }) (runs_in kind items)
     (λ is. ltb-true (item.key.offset + count * 4096) (2 ^ 64) (second_true (typed && key && some && whole) low is)) (runs_low kind items)
 
+-- the runs of the checksum tree end below 2^64
 pub are_low : (fs : Filesystem) (list : List SumRun) → list ≡ sum_runs fs → AreLow list
 are_low fs list is = subst AreLow (sym is) (runs_low (kind_of_sums fs) (tree_items fs 7))

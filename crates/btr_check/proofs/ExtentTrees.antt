@@ -9,7 +9,7 @@ use Rattle.btr_check_space.specs.declared.group.Group.{Group}
 use Rattle.btr_findings.specs.declared.finding.Finding.{Finding}
 use Rattle.btr_items.specs.Item.{item_fits, body_fits, form_of}
 use Rattle.btr_items.specs.Key.{key_fits}
-use Rattle.btr_refs.specs.Extents.{Kept, StoredLaw, nothing_kept, stored_of, stored_step}
+use Rattle.btr_refs.specs.Extents.{KeptExtents, StoredLaw, nothing_kept, stored_of, stored_step}
 use Rattle.btr_tour.proofs.Pairs.{both_folds}
 use Rattle.btr_tour.specs.Pairs.{both_step}
 use Rattle.btr_tour.specs.declared.both.Both.{Both}
@@ -29,14 +29,12 @@ use Rattle.btr_check.specs.Walking.{or_first}
 use Rattle.btr_check.specs.Walks.{fault_finding, broken, tree_broken, tree_overlapping, walk_findings}
 use Rattle.btr_check.specs.declared.block_fault.BlockFault.{BlockFault}
 use Rattle.btr_check.specs.declared.block_fault.BlockFault.TheVariants.{Malformed as BlockMalformed}
-
-both_true : (a b : Bool) → (a && b) ≡ true → (a ≡ true) × (b ≡ true)
-both_true true b e = (refl, e)
-both_true false b e = cc
+use Rattle.btr_refs.proofs.Keeping.{both_true}
 
 cons_ne : {X : Type 0} (x : X) (xs ys : List X) → ys ≡ x ∷ xs → ys ≡ [] → ⊥
 cons_ne x xs ys is none = cc
 
+-- where there are no findings in all, there are none behind the first thing
 rest_none : (o : Option Finding) (rest : List Finding) → cons_option o rest ≡ [] → rest ≡ []
 rest_none None rest none = none
 rest_none (Some finding) rest none = absurd (cons_ne finding rest (finding ∷ rest) refl none)
@@ -45,10 +43,12 @@ rest_none (Some finding) rest none = absurd (cons_ne finding rest (finding ∷ r
 abbrev keyed : TreeItem → Bool
 keyed item = key_fits item.key
 
+-- the key of an item that has its form keeps the rules of its type
 form_keyed : (kind : SumKind) (item : TreeItem) → has_form kind item.key item.body ≡ true → keyed item ≡ true
 form_keyed kind item has =
     (both_true (keyed item) (body_fits (form_of item.key.kind) kind item.key item.body) (both_true (item_fits kind item.key item.body) _ has).0).0
 
+-- the fault of an item, unless it has its form
 abbrev by_form : TreeItem → Bool → Option BlockFault
 by_form item b = if b then None else Some (BlockMalformed item.leaf)
 
@@ -72,14 +72,15 @@ all_keyed kind (Item item ∷ marks) none = by (has_form kind item.key item.body
         (cons_option (option_map fault_finding (by_form item (has_form kind item.key item.body))) (filter_map (broken kind) marks))
         (ap (λ b. cons_option (option_map fault_finding (by_form item b)) (filter_map (broken kind) marks)) is) none)
 
+-- where two lists together are empty, each of them is
 neither : {X : Type 0} (xs ys : List X) → xs ++ ys ≡ [] → (xs ≡ []) × (ys ≡ [])
 neither [] ys e = (refl, e)
 neither (x ∷ xs) ys e = absurd (cons_ne x (xs ++ ys) (x ∷ xs ++ ys) refl e)
 
-same_tree : (a b : TreeRoot) → Some a ≡ Some b → a ≡ b
+pub same_tree : (a b : TreeRoot) → Some a ≡ Some b → a ≡ b
 same_tree a b e = cc
 
-not_some : (a : TreeRoot) (P : Type 0) → None ≡ Some a → P
+pub not_some : (a : TreeRoot) (P : Type 0) → None ≡ Some a → P
 not_some a P e = cc
 
 module _ {Y : Type 0} (f : TreeRoot → List Y) where
@@ -104,13 +105,14 @@ listed_sound fs none =
     (neither (tree_broken fs (root_tree fs.sup)) (flat_map (tree_broken fs) (listed fs.sup fs.blocks)) behind.1).1
 
 module _ (fs : Filesystem) (all : List TreeRoot) (known : ListsSound all fs) where
+  -- where the walk found nothing, the keys of all items of the extent tree keep the rules of their types
   tree_keyed : (tree : Option TreeRoot) → last_of 2 (listed fs.sup fs.blocks) ≡ tree → list_all keyed (items_met (marks_if fs.blocks tree)) ≡ true
   tree_keyed None is = refl
   tree_keyed (Some tree) is = all_keyed (kind_of_sums fs) (whole fs.blocks tree.place)
       (none_last (tree_broken fs) 2 (listed fs.sup fs.blocks) tree is (listed_sound fs known.sound))
 
   -- what a visit of the extent tree kept
-  pub stored_are : StoredLaw → (tree : Option TreeRoot) (none kept : Kept) → tree ≡ last_of 2 all → none ≡ nothing_kept fs.sup.nodesize
+  pub stored_are : StoredLaw → (tree : Option TreeRoot) (none kept : KeptExtents) → tree ≡ last_of 2 all → none ≡ nothing_kept fs.sup.nodesize
       → kept ≡ fold stored_step none (marks_if fs.blocks tree) → kept ≡ stored fs
   stored_are law tree none kept is empty folded =
       let here : tree ≡ last_of 2 (listed fs.sup fs.blocks) = is ∙ ap (last_of 2) known.lists in
@@ -119,21 +121,21 @@ module _ (fs : Filesystem) (all : List TreeRoot) (known : ListsSound all fs) whe
       ∙ ap (stored_of fs.sup.nodesize) (marks_items fs.blocks tree ∙ ap (items_if fs.blocks) here)
 
   -- what visits kept of the extent tree and of the tree that has the block groups
-  pub both_are : StoredLaw → Collects group_in → (first second : Option TreeRoot) (none both : Both Kept (List Group)) → first ≡ last_of 2 all
+  pub both_are : StoredLaw → Collects group_in → (first second : Option TreeRoot) (none both : Both KeptExtents (List Group)) → first ≡ last_of 2 all
       → second ≡ group_tree all → none ≡ record { first = nothing_kept fs.sup.nodesize; second = [] }
       → both ≡ record {
         first = fold stored_step none.first (marks_if fs.blocks first);
         second = fold (with_mark group_in) none.second (marks_if fs.blocks second);
       } → AreCollected fs both
   both_are law groups_law first second none both is has empty folded = record {
-    stored = stored_are law first none.first both.first is (ap (λ (b : Both Kept (List Group)). b.first) empty)
-        (ap (λ (b : Both Kept (List Group)). b.first) folded);
-    groups = groups_are fs groups_law all second none.second both.second known.lists has (ap (λ (b : Both Kept (List Group)). b.second) empty)
-        (ap (λ (b : Both Kept (List Group)). b.second) folded);
+    stored = stored_are law first none.first both.first is (ap (λ (b : Both KeptExtents (List Group)). b.first) empty)
+        (ap (λ (b : Both KeptExtents (List Group)). b.first) folded);
+    groups = groups_are fs groups_law all second none.second both.second known.lists has (ap (λ (b : Both KeptExtents (List Group)). b.second) empty)
+        (ap (λ (b : Both KeptExtents (List Group)). b.second) folded);
   }
 
   -- the same of one visit, where block groups have no tree of their own
-  pub both_at_once : StoredLaw → Collects group_in → (tree : Option TreeRoot) (none both : Both Kept (List Group)) → tree ≡ last_of 2 all
+  pub both_at_once : StoredLaw → Collects group_in → (tree : Option TreeRoot) (none both : Both KeptExtents (List Group)) → tree ≡ last_of 2 all
       → last_of 11 all ≡ None → none ≡ record { first = nothing_kept fs.sup.nodesize; second = [] }
       → both ≡ fold (both_step stored_step (with_mark group_in)) none (marks_if fs.blocks tree) → AreCollected fs both
   both_at_once law groups_law tree none both is apart empty folded =

@@ -28,10 +28,7 @@ use Rattle.btr_check.specs.FileTrees.{TreatsNames}
 use Rattle.btr_check.specs.Passes.{Lists}
 use Rattle.btr_check.specs.Trees.{items_in}
 use Rattle.btr_check.specs.declared.file_tree.FileTree.{FileTree}
-
-and_true : (a : Bool) → (a && true) ≡ a
-and_true true = refl
-and_true false = refl
+use Rattle.btr_read.proofs.Rebuilt.{and_true}
 
 and_then : (a b c : Bool) → ((a && b) && c) ≡ (a && (b && c))
 and_then true b c = refl
@@ -65,6 +62,7 @@ filter_by : {X : Type 0} (p : X → Bool) (x : X) (xs : List X) (b : Bool) → p
 filter_by p x xs true is rest = ap (λ b. cond b (x ∷ filter p (filter p xs)) (filter p (filter p xs))) is ∙ ap (λ l. x ∷ l) rest
 filter_by p x xs false is rest = rest
 
+-- what is left by a test is left by it once more
 pub filter_twice : {X : Type 0} (p : X → Bool) (xs : List X) → filter p (filter p xs) ≡ filter p xs
 filter_twice p [] = refl
 filter_twice p (x ∷ xs) = filter_by p x xs (p x) refl (filter_twice p xs)
@@ -78,6 +76,7 @@ module _ (B : Map) where
     pub uses : met.uses ≡ record { loose = filter_map loose_in (items_in B tree); used = filter_map used_in (items_in B tree) }
     pub plain : met.is_plain ≡ list_all is_plain (items_in B tree)
 
+  -- a visit of a whole tree of files leaves what was met of the tree
   pub file_tree_met : UnpairedLaw → KeepsUses → (tree : TreeRoot) (none met : FileTree) → none ≡ nothing_met tree.dirid
       → met ≡ fold file_step none (whole B tree.place) → IsMetOf tree met
   file_tree_met names uses tree none met empty is =
@@ -103,6 +102,7 @@ module _ (B : Map) where
       → all ≡ names_of B tree
   all_names_met names tree none all empty is = is ∙ ap (λ n. fold names_step n (whole B tree.place)) empty ∙ names tree.id tree.dirid (whole B tree.place)
 
+  -- the names of a tree were treated where what is wrong with all of them was put and its entries were kept
   pub treats_names : (tree : TreeRoot) (all : Names) (a b : FoundSet) (names names' : Subvolumes) → all ≡ names_of B tree → Adds (names_findings all) a b
       → names' ≡ subvolumes_at names all.tree all.indexed → TreatsNames B tree a b names names'
   treats_names tree all a b names names' is adds at = record {
@@ -111,6 +111,7 @@ module _ (B : Map) where
   }
 
   module _ (chunks : List Chunk) (runs : List SumRun) where
+    -- before the first tree nothing was put, and no names were kept
     pub treats_none : (set : FoundSet) (names : Subvolumes) → Treats B chunks runs [] set set names names
     treats_none set names = record {
       found = adds_none set;
@@ -151,6 +152,7 @@ module _ (B : Map) where
           ∙ ap (with_entries names) (sym (append-nil (root_entries B tree)));
     }
 
+    -- trees of files were treated, and then some more
     pub treats_then : (xs ys : List TreeRoot) (a b c : FoundSet) (m n o : Subvolumes) → Treats B chunks runs xs a b m n → Treats B chunks runs ys b c n o
         → Treats B chunks runs (xs ++ ys) a c m o
     treats_then xs ys a b c m n o one two =

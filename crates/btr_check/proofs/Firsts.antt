@@ -16,18 +16,23 @@ pub place_total : IsTotalOrder place_cmp
 place_total = then_total (on_total (λ (p : BlockId). p.addr) nat_cmp_total)
     (then_total (on_total (λ (p : BlockId). p.generation) nat_cmp_total) (on_total (λ (p : BlockId). p.level) nat_cmp_total))
 
+-- where a block that was met stands
 abbrev at : Reached → RootPlace
 at one = one.place
 
+-- the places with one that wasn't met before
 abbrev with_one : Places → RootPlace → Places
 with_one places one = record { keys = insert_key place_cmp places.keys (place_of one); list = places.list ++ one ∷ [] }
 
+-- the places that are kept as some blocks are met
 abbrev kept : List Reached → Places → Places
 kept all places = fold with_place places (map at all)
 
+-- where those of some blocks stand that weren't met before, each once
 abbrev met_first : List BlockId → List Reached → List RootPlace
 met_first before all = map at (first_met before all)
 
+-- the places that are kept are, as a set, those that were met before
 abbrev Same : List BlockId → Places → Type 0
 Same before places = (q : BlockId) → is_among places.keys q ≡ is_among before q
 
@@ -45,6 +50,7 @@ met_one before one more places false is same old new =
     ∙ append_assoc places.list (one.place ∷ []) (met_first (place_of one.place ∷ before) more)
     ∙ ap (λ b. places.list ++ map at (if b then first_met before more else one ∷ first_met (place_of one.place ∷ before) more)) (sym is)
 
+-- as blocks are met, the places that are kept grow by those that weren't met before
 met_all : (before : List BlockId) (all : List Reached) (places : Places) → Same before places → (kept all places).list ≡ places.list ++ met_first before all
 met_all before [] places same = sym (append-nil places.list)
 met_all before (one ∷ more) places same =

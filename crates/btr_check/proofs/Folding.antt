@@ -17,6 +17,7 @@ pub record IsRootWalk (seen seen' : RootSeen) (marks : List Mark) : Type 0 where
   pub wrong_is : seen'.wrong ≡ or_first seen.wrong (first_of (filter_map (wrong seen.kind) marks))
   pub trees_are : seen'.trees ≡ seen.trees ++ filter_map tree_of_item (items_met marks)
 
+-- the tree that a mark of the root tree lists, and those that the marks behind it list
 trees_more : (mark : Mark) (marks : List Mark) → trees_at mark ++ filter_map tree_of_item (items_met marks) ≡ filter_map tree_of_item (items_met (mark ∷ marks))
 trees_more (Block place block) marks = refl
 trees_more (Child addr place) marks = refl
@@ -27,6 +28,7 @@ first_none : {X : Type 0} (a : Option X) → a ≡ or_first a None
 first_none None = refl
 first_none (Some a) = refl
 
+-- of the root tree the first that is wrong with it is kept, and the trees that it lists
 pub root_walked : (marks : List Mark) (seen : RootSeen) → IsRootWalk seen (fold root_step seen marks) marks
 root_walked [] seen = record { wrong_is = first_none seen.wrong; trees_are = sym (append-nil seen.trees) }
 root_walked (mark ∷ marks) seen =
@@ -43,15 +45,18 @@ unfoldable pub apart_from : Option FileRange → List FileRange → List Finding
 apart_from None ranges = filter_map not_apart (neighbours ranges)
 apart_from (Some last) ranges = filter_map not_apart (neighbours (last ∷ ranges))
 
+-- where there are no ranges, all are apart
 apart_none : (last : Option FileRange) → apart_from last [] ≡ []
 unfolding apart_from
 apart_none None = refl
 apart_none (Some last) = refl
 
+-- without a last range before them, those that aren't apart are those among the ranges
 pub apart_all : (ranges : List FileRange) → apart_from None ranges ≡ filter_map not_apart (neighbours ranges)
 unfolding apart_from
 apart_all ranges = refl
 
+-- what isn't apart with one range more: that one behind the last, and the others behind it
 apart_more : (last next : Option FileRange) (ranges : List FileRange) → behind_last last next ++ apart_from (or_last last next) ranges ≡ apart_from last
     (option_to_list next ++ ranges)
 unfolding apart_from
@@ -60,15 +65,18 @@ apart_more None (Some next) ranges = refl
 apart_more (Some last) None ranges = refl
 apart_more (Some last) (Some next) ranges = sym (one_more (not_apart (last, next)) (filter_map not_apart (neighbours (next ∷ ranges))))
 
+-- the range of a file that a mark has, and those of the marks behind it
 ranges_more : (mark : Mark) (marks : List Mark) → option_to_list (range_at mark) ++ ranges_met marks ≡ ranges_met (mark ∷ marks)
 ranges_more (Block place block) marks = refl
 ranges_more (Child addr place) marks = refl
 ranges_more (Item item) marks = sym (one_more (range_of item) (ranges_met marks))
 ranges_more (Left fault) marks = refl
 
+-- where a block that was met stands
 abbrev at : Reached → RootPlace
 at one = one.place
 
+-- the places that are kept after a mark, and after the blocks of the marks behind it
 places_more : (mark : Mark) (marks : List Mark) (places : Places) → fold with_place (place_met places mark) (map at (blocks_met marks)) ≡ fold with_place places
     (map at (blocks_met (mark ∷ marks)))
 places_more (Block place block) marks places = refl
@@ -83,6 +91,7 @@ pub record IsWalk (seen seen' : WalkSeen) (marks : List Mark) : Type 0 where
   pub overlapping_is : seen'.overlapping ≡ seen.overlapping ++ apart_from seen.last (ranges_met marks)
   pub places_are : seen'.places ≡ fold with_place seen.places (map at (blocks_met marks))
 
+-- of some marks it is kept what is broken, which ranges of files aren't apart, and which blocks were met
 pub walked : (marks : List Mark) (seen : WalkSeen) → IsWalk seen (fold walk_step seen marks) marks
 walked [] seen = record {
   kind_is = refl;

@@ -24,10 +24,12 @@ first_more None None xs = refl
 first_more None (Some b) xs = refl
 first_more (Some a) b xs = refl
 
+-- the first of two lists is that of the one, or else that of the other
 pub first_then : {X : Type 0} (xs ys : List X) → first_of (xs ++ ys) ≡ or_first (first_of xs) (first_of ys)
 first_then [] ys = refl
 first_then (x ∷ xs) ys = refl
 
+-- a list that has no first element is empty
 pub no_first : {X : Type 0} (xs : List X) → first_of xs ≡ None → xs ≡ []
 no_first [] e = refl
 no_first (x ∷ xs) e = cc
@@ -45,6 +47,7 @@ module _ {X Y : Type 0} (rule : X → Option Y) (xs : List X) where
       ∙ first_then (filter_map rule (take i xs)) (filter_map rule (get_or xs i d ∷ [])) ∙ ap (or_first (first_of (filter_map rule (take i xs))))
       (first_one (rule (get_or xs i d)))
 
+-- the last tree of an id with one more behind it: that one, if it has the id
 last_snoc : (id : ℕ) (xs : List TreeRoot) (x : TreeRoot) → last_of id (xs ++ x ∷ []) ≡ (if eqb x.id id then Some x else last_of id xs)
 last_snoc id [] x = by (eqb x.id id)
   where
@@ -68,11 +71,13 @@ pub last_taken : (id : ℕ) (xs : List TreeRoot) (i : ℕ) (d : TreeRoot) (last 
 last_taken id xs i d last below same is = is ∙ sym
     (last_more id xs i d below ∙ ap (λ b. if b then Some (get_or xs i d) else last_of id (take i xs)) (eq-eqb _ _ same))
 
+-- where one more tree has another id, the last one of the id stays
 pub last_kept : (id : ℕ) (xs : List TreeRoot) (i : ℕ) (d : TreeRoot) (last before : Option TreeRoot) → i < length xs → ((get_or xs i d).id ≡ id → ⊥)
     → last ≡ before → before ≡ last_of id (take i xs) → last ≡ last_of id (take (i + 1) xs)
 last_kept id xs i d last before below other is had = is ∙ had ∙ sym
     (last_more id xs i d below ∙ ap (λ b. if b then Some (get_or xs i d) else last_of id (take i xs)) (ne_eqb _ _ other))
 
+-- the first of what is made of some things is made of the first of these
 pub first_mapped : {X Y : Type 0} (f : X → Y) (xs : List X) (ys : List Y) (x : X) → first_of xs ≡ Some x → first_of (map f xs ++ ys) ≡ Some (f x)
 first_mapped f [] ys x e = cc
 first_mapped f (a ∷ xs) ys x e = cc

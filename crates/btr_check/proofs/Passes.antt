@@ -34,6 +34,7 @@ pub unless_more : {A : Type 0} (P Q : A → Type 0) (r : Result A Stop) → ((a 
 unless_more P Q (Ok a) f h = f a h
 unless_more P Q (Err stop) f h = h
 
+-- what follows from what holds on success holds then too
 pub on_done : {E : Type 0} (P Q : Type 0) (r : Result (Unit {0}) E) → (P → Q) → OnOk r P → OnOk r Q
 on_done P Q (Ok u) f h = f h
 on_done P Q (Err e) f h = tt
@@ -66,6 +67,7 @@ pub on_both : {E : Type 0} (P Q S : Type 0) (r : Result (Unit {0}) E) → (P →
 on_both P Q S (Ok u) f one two = f one two
 on_both P Q S (Err e) f one two = tt
 
+-- what holds in any case holds on success
 pub on_all : {E P : Type 0} (r : Result (Unit {0}) E) → P → OnOk r P
 on_all (Ok u) h = h
 on_all (Err e) h = tt

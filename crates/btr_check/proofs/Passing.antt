@@ -18,13 +18,14 @@ use Rattle.btr_findings.proofs.Sets.{any-insert, all-weaker}
 use Rattle.btr_findings.specs.declared.finding.Finding.{Finding}
 use Rattle.btr_tour.specs.Tour.{Mark, Block, Child, Item, Left, Reached, items_met, blocks_met, child_tour, first_key, place_of as place_on}
 use Rattle.btr_walk.specs.declared.place.RootPlace.{RootPlace}
-use Rattle.btr_walk.specs.declared.spot.Spot.{Spot}
+use Rattle.btr_walk.specs.declared.block_pointer.BlockPointer.{BlockPointer}
 use Rattle.btr_check.specs.declared.places.BlockId.{BlockId}
 use Rattle.btr_check.specs.declared.subtrees.Edges.{Edges}
 use Rattle.btr_check.specs.declared.subtrees.Subtree.{Subtree}
 use Rattle.btr_check.specs.declared.walk.FileRange.{FileRange}
 use Rattle.btr_check.specs.Filesystem.{Filesystem, kind_of_sums, neighbours}
-use Rattle.btr_check.specs.Passing.{edge_of, joined, edges_of, Known, place_at, subtree_with, with_subtree, IsKept, passed, WasMet, CanPass, subtree_marks}
+use Rattle.btr_check.specs.Passing.{edge_of, joined, edges_of, Known, place_at, subtree_with}
+use Rattle.btr_check.specs.Passing.{with_subtree, IsSubtreeKept, passed, WasMet, CanPass, subtree_marks}
 use Rattle.btr_check.specs.Passing.{children_marks, Knows, Walked}
 use Rattle.btr_check.specs.Trees.{is_among, place_of, place_cmp}
 use Rattle.btr_check.specs.Walking.{Places, WalkSeen, begun, behind_last, is_nothing, or_last, walk_step, with_place}
@@ -33,6 +34,7 @@ use Rattle.btr_check.proofs.Firsts.{place_total}
 use Rattle.btr_check.proofs.Folding.{apart_from, walked}
 use Rattle.btr_check.proofs.Lists.{one_more, flat_more}
 use Rattle.btr_check.proofs.Wholes.{none_found}
+use Rattle.btr_check_differences.proofs.Missing.{both_none}
 
 -- edges
 joined-assoc : (a b c : Option Edges) → joined (joined a b) c ≡ joined a (joined b c)
@@ -47,6 +49,7 @@ edges_then [] ys = refl
 edges_then (x ∷ xs) ys =
     ap (joined (edge_of (Some x))) (edges_then xs ys) ∙ sym (joined-assoc (edge_of (Some x)) (edges_of xs) (edges_of ys))
 
+-- the items that two tours meet, one behind the other, are those of each
 pub items_then : (xs ys : List Mark) → items_met (xs ++ ys) ≡ items_met xs ++ items_met ys
 items_then [] ys = refl
 items_then (Block place block ∷ xs) ys = items_then xs ys
@@ -54,9 +57,11 @@ items_then (Child addr place ∷ xs) ys = items_then xs ys
 items_then (Item item ∷ xs) ys = ap (λ l. item ∷ l) (items_then xs ys)
 items_then (Left fault ∷ xs) ys = items_then xs ys
 
+-- the ranges of files that two tours meet, one behind the other, are those of each
 pub ranges_then : (xs ys : List Mark) → ranges_met (xs ++ ys) ≡ ranges_met xs ++ ranges_met ys
 ranges_then xs ys = ap (filter_map range_of) (items_then xs ys) ∙ filter_map-append range_of (items_met xs) (items_met ys)
 
+-- the edges of what two tours meet are those of the first, joined with those of the second
 pub marks_edges : (xs ys : List Mark) → edges_of (ranges_met (xs ++ ys)) ≡ joined (edges_of (ranges_met xs)) (edges_of (ranges_met ys))
 marks_edges xs ys = ap edges_of (ranges_then xs ys) ∙ edges_then (ranges_met xs) (ranges_met ys)
 
@@ -65,6 +70,7 @@ abbrev last_met : Option FileRange → List FileRange → Option FileRange
 last_met last [] = last
 last_met last (range ∷ ranges) = last_met (Some range) ranges
 
+-- the last range that is kept after some marks is the last one that they have
 last_is : (marks : List Mark) (seen : WalkSeen) → (fold walk_step seen marks).last ≡ last_met seen.last (ranges_met marks)
 last_is [] seen = refl
 last_is (Block place block ∷ marks) seen = last_is marks (walk_step seen (Block place block))
@@ -76,12 +82,15 @@ last_is (Item item ∷ marks) seen = last_is marks (walk_step seen (Item item)) 
     by (Some range) = refl
 last_is (Left fault ∷ marks) seen = last_is marks (walk_step seen (Left fault))
 
+-- the first range at some edges
 abbrev first_edge : Option Edges → Option FileRange
 first_edge edges = option_map (λ (e : Edges). e.first) edges
 
+-- the last range at some edges
 abbrev last_edge : Option Edges → Option FileRange
 last_edge edges = option_map (λ (e : Edges). e.last) edges
 
+-- the last of some ranges is the one at their last edge
 last_edges : (last : Option FileRange) (ranges : List FileRange) → last_met last ranges ≡ or_last last (last_edge (edges_of ranges))
 last_edges last [] = refl
 last_edges last (range ∷ ranges) = last_edges (Some range) ranges ∙ by (edges_of ranges)
@@ -90,6 +99,7 @@ last_edges last (range ∷ ranges) = last_edges (Some range) ranges ∙ by (edge
     by None = refl
     by (Some edges) = refl
 
+-- the first edge of a range and of those behind it is this range
 first_one : (range : FileRange) (edges : Option Edges) → first_edge (joined (edge_of (Some range)) edges) ≡ Some range
 first_one range None = refl
 first_one range (Some edges) = refl
@@ -117,6 +127,7 @@ apart_within (Some last) (range ∷ ranges) none = by (not_apart (last, range)) 
     by None none = none
     by (Some finding) none = cc
 
+-- where a block that was met stands
 abbrev at : Reached → RootPlace
 at one = one.place
 
@@ -162,14 +173,17 @@ still_there places q place there = by (is_among places.keys (place_of place))
         any-insert place_cmp place_total q places.keys (place_of place) ∙ ap (λ b. is_eq (place_cmp q (place_of place)) || b) there
         ∙ or_true (is_eq (place_cmp q (place_of place)))
 
+-- an order that is its own reverse is equality
 self_equal : (r : Ordering) → r ≡ ordering_reverse r → r ≡ Equal
 self_equal Less e = cc
 self_equal Equal e = refl
 self_equal Greater e = cc
 
+-- a place compares as equal to itself
 place_is : (p : BlockId) → is_eq (place_cmp p p) ≡ true
 place_is p = ap is_eq (self_equal (place_cmp p p) (place_total.antisymm p p))
 
+-- a place that was met is among those that are kept
 now_there : (places : Places) (place : RootPlace) → is_among (with_place places place).keys (place_of place) ≡ true
 now_there places place = by (is_among places.keys (place_of place)) refl
   where
@@ -181,10 +195,12 @@ now_there places place = by (is_among places.keys (place_of place)) refl
         any-insert place_cmp place_total (place_of place) places.keys (place_of place)
         ∙ ap (λ b. b || is_among places.keys (place_of place)) (place_is (place_of place))
 
+-- a place that is kept stays so as more are met
 stays_there : (list : List RootPlace) (places : Places) (q : BlockId) → is_among places.keys q ≡ true → is_among (fold with_place places list).keys q ≡ true
 stays_there [] places q there = there
 stays_there (place ∷ list) places q there = stays_there list (with_place places place) q (still_there places q place there)
 
+-- all blocks that were met stand at places that are kept
 all_there : (blocks : List Reached) (places : Places)
     → AllByRecursion (λ (one : Reached). is_among (fold with_place places (map at blocks)).keys (place_of one.place) ≡ true) blocks
 all_there [] places = tt
@@ -207,19 +223,15 @@ can_pass_on old new marks behind edges is can =
           ∙ stays_there (map at (blocks_met behind)) old.places (place_of one.place) there) (blocks_met marks) can.met;
     }
 
-append_none : {X : Type 0} (xs ys : List X) → xs ++ ys ≡ [] → (xs ≡ []) × (ys ≡ [])
-append_none [] ys e = (refl, e)
-append_none (x ∷ xs) ys e = cc
-
 -- where nothing was found up to behind some marks, these can be passed from there on
 pub can_pass : (old new : WalkSeen) (marks : List Mark) (edges : Option Edges) → new ≡ fold walk_step old marks → edges ≡ edges_of (ranges_met marks)
     → is_nothing (new.broken ++ new.overlapping) ≡ true → CanPass new marks edges
 can_pass old new marks edges is edges_are sound =
     let w = walked marks old in
-    let none = append_none new.broken new.overlapping (none_found (new.broken ++ new.overlapping) sound) in
+    let none = both_none new.broken new.overlapping (none_found (new.broken ++ new.overlapping) sound) in
     let kind : new.kind ≡ old.kind = ap (λ (s : WalkSeen). s.kind) is ∙ w.kind_is in
-    let broken_is = append_none old.broken (filter_map (broken old.kind) marks) (sym (ap (λ (s : WalkSeen). s.broken) is ∙ w.broken_is) ∙ none.0) in
-    let overlapping_is = append_none old.overlapping (apart_from old.last (ranges_met marks))
+    let broken_is = both_none old.broken (filter_map (broken old.kind) marks) (sym (ap (λ (s : WalkSeen). s.broken) is ∙ w.broken_is) ∙ none.0) in
+    let overlapping_is = both_none old.overlapping (apart_from old.last (ranges_met marks))
     (sym (ap (λ (s : WalkSeen). s.overlapping) is ∙ w.overlapping_is) ∙ none.1) in
     let places : new.places ≡ fold with_place old.places (map at (blocks_met marks)) = ap (λ (s : WalkSeen). s.places) is ∙ w.places_are in
     record {
@@ -236,11 +248,13 @@ is_equal Less e = cc
 is_equal Equal e = refl
 is_equal Greater e = cc
 
+-- where two comparisons in turn say equal, each of them does
 both_equal : (a b : Ordering) → ordering_then a b ≡ Equal → (a ≡ Equal) × (b ≡ Equal)
 both_equal Less b e = cc
 both_equal Equal b e = (refl, e)
 both_equal Greater b e = cc
 
+-- places that compare as equal are the same
 place_exact : CmpEqualImpliesEq place_cmp
 place_exact a b e =
     let one = both_equal (nat_cmp a.addr b.addr) (ordering_then (nat_cmp a.generation b.generation) (nat_cmp a.level b.level)) e in
@@ -255,9 +269,11 @@ same_some x y e = cc
 
 -- what is found behind an insertion was there, or is what was inserted
 module _ {K X : Type 0} (R : K → K → Ordering) (exact : CmpEqualImpliesEq R) (k : K) (v w : X) (q : K) where
+  -- it was among some entries, or is what is inserted into them
   abbrev Found : List (K × X) → Type 0
   Found es = (lookup (is_at (R q)) es ≡ Some w) ⊎ ((q ≡ k) × (v ≡ w))
 
+  -- what a look-up finds after an insertion was among the entries, or is what was inserted
   found_after : (es : List (K × X)) → lookup (is_at (R q)) (insert_entry R es k v) ≡ Some w → Found es
   found_after [] is = by (is_eq (R q k)) refl is
     where
@@ -289,6 +305,7 @@ module _ {K X : Type 0} (R : K → K → Ordering) (exact : CmpEqualImpliesEq R)
       by rest Equal e is = here e (is_eq (R q entry.0)) refl is
       by rest Greater e is = behind rest (is_eq (R q entry.0)) refl is
 
+-- where a mark has no range nothing is wrong behind the last one
 behind_none : (last : Option FileRange) → behind_last last None ≡ []
 behind_none None = refl
 behind_none (Some last) = refl
@@ -298,51 +315,54 @@ module _ (fs : Filesystem) where
   pub knows_on : (old new : WalkSeen) (known : Known) (behind : List Mark) → new ≡ fold walk_step old behind → Knows fs old known → Knows fs new known
   knows_on old new known behind is knows = record {
     kind = ap (λ (s : WalkSeen). s.kind) is ∙ (walked behind old).kind_is ∙ knows.kind;
-    all = λ level spot edges kept. can_pass_on old new (subtree_marks fs level spot) behind edges is (knows.all level spot edges kept);
+    all = λ level pointer edges kept. can_pass_on old new (subtree_marks fs level pointer) behind edges is (knows.all level pointer edges kept);
   }
 
   -- and where another tree begins
   pub knows_begun : (seen : WalkSeen) (known : Known) → Knows fs seen known → Knows fs (begun seen) known
   knows_begun seen known knows = record {
     kind = knows.kind;
-    all = λ level spot edges kept.
-        let can = knows.all level spot edges kept in
+    all = λ level pointer edges kept.
+        let can = knows.all level pointer edges kept in
         record { whole = can.whole; apart = can.apart; edges_are = can.edges_are; met = can.met };
   }
 
-  same_subtree : (seen : WalkSeen) (level level' : ℕ) (spot spot' : Spot) (edges edges' : Option Edges)
-      → place_at level' spot' ≡ place_at level spot → subtree_with spot edges ≡ subtree_with spot' edges'
-      → CanPass seen (subtree_marks fs level spot) edges → CanPass seen (subtree_marks fs level' spot') edges'
-  same_subtree seen level level' spot spot' edges edges' place subtree can =
+  -- a subtree of the same place, bounds and edges can be passed as well
+  same_subtree : (seen : WalkSeen) (level level' : ℕ) (pointer pointer' : BlockPointer) (edges edges' : Option Edges)
+      → place_at level' pointer' ≡ place_at level pointer → subtree_with pointer edges ≡ subtree_with pointer' edges'
+      → CanPass seen (subtree_marks fs level pointer) edges → CanPass seen (subtree_marks fs level' pointer') edges'
+  same_subtree seen level level' pointer pointer' edges edges' place subtree can =
       let levels : level ≡ level' = sym (ap (λ (p : BlockId). p.level) place) in
-      let addr : spot.addr ≡ spot'.addr = sym (ap (λ (p : BlockId). p.addr) place) in
-      let generation : spot.generation ≡ spot'.generation = sym (ap (λ (p : BlockId). p.generation) place) in
-      let first : spot.first ≡ spot'.first = ap (λ (s : Subtree). s.first) subtree in
-      let up : spot.up ≡ spot'.up = ap (λ (s : Subtree). s.up) subtree in
-      let spots : spot ≡ spot' = λ i. record { addr = addr i; generation = generation i; first = first i; up = up i } in
+      let addr : pointer.addr ≡ pointer'.addr = sym (ap (λ (p : BlockId). p.addr) place) in
+      let generation : pointer.generation ≡ pointer'.generation = sym (ap (λ (p : BlockId). p.generation) place) in
+      let first : pointer.first ≡ pointer'.first = ap (λ (s : Subtree). s.first) subtree in
+      let up : pointer.up ≡ pointer'.up = ap (λ (s : Subtree). s.up) subtree in
+      let block_pointers : pointer ≡ pointer' = λ i. record { addr = addr i; generation = generation i; first = first i; up = up i } in
       let edges_same : edges ≡ edges' = ap (λ (s : Subtree). s.edges) subtree in
-      subst (λ e. CanPass seen (subtree_marks fs level' spot') e) edges_same
-      (subst (λ s. CanPass seen (subtree_marks fs level' s) edges) spots
-      (subst (λ l. CanPass seen (subtree_marks fs l spot) edges) levels can))
+      subst (λ e. CanPass seen (subtree_marks fs level' pointer') e) edges_same
+      (subst (λ s. CanPass seen (subtree_marks fs level' s) edges) block_pointers
+      (subst (λ l. CanPass seen (subtree_marks fs l pointer) edges) levels can))
 
   -- one subtree more
-  pub knows_more : (seen : WalkSeen) (known : Known) (level : ℕ) (spot : Spot) (edges : Option Edges) → Knows fs seen known
-      → CanPass seen (subtree_marks fs level spot) edges → Knows fs seen (with_subtree known level spot edges)
-  knows_more seen known level spot edges knows can = record {
+  pub knows_more : (seen : WalkSeen) (known : Known) (level : ℕ) (pointer : BlockPointer) (edges : Option Edges) → Knows fs seen known
+      → CanPass seen (subtree_marks fs level pointer) edges → Knows fs seen (with_subtree known level pointer edges)
+  knows_more seen known level pointer edges knows can = record {
     kind = knows.kind;
-    all = λ level' spot' edges' kept. by level' spot' edges'
-        (found_after place_cmp place_exact (place_at level spot) (subtree_with spot edges) (subtree_with spot' edges') (place_at level' spot') known kept);
+    all = λ level' pointer' edges' kept. by level' pointer' edges'
+        (found_after place_cmp place_exact (place_at level pointer) (subtree_with pointer edges) (subtree_with pointer' edges') (place_at level' pointer')
+        known kept);
   }
     where
-      by : (level' : ℕ) (spot' : Spot) (edges' : Option Edges)
-          → (IsKept known level' spot' edges' ⊎ ((place_at level' spot' ≡ place_at level spot) × (subtree_with spot edges ≡ subtree_with spot' edges')))
-          → CanPass seen (subtree_marks fs level' spot') edges'
-      by level' spot' edges' (inl kept) = knows.all level' spot' edges' kept
-      by level' spot' edges' (inr same) = same_subtree seen level level' spot spot' edges edges' same.0 same.1 can
+      by : (level' : ℕ) (pointer' : BlockPointer) (edges' : Option Edges)
+          → (IsSubtreeKept known level' pointer' edges' ⊎ ((place_at level' pointer' ≡ place_at level pointer)
+          × (subtree_with pointer edges ≡ subtree_with pointer' edges')))
+          → CanPass seen (subtree_marks fs level' pointer') edges'
+      by level' pointer' edges' (inl kept) = knows.all level' pointer' edges' kept
+      by level' pointer' edges' (inr same) = same_subtree seen level level' pointer pointer' edges edges' same.0 same.1 can
 
   -- no subtree is kept
   pub knows_none : (seen : WalkSeen) → seen.kind ≡ kind_of_sums fs → Knows fs seen []
-  knows_none seen kind = record { kind = kind; all = λ level spot edges kept. absurd (none_kept (subtree_with spot edges) kept) }
+  knows_none seen kind = record { kind = kind; all = λ level pointer edges kept. absurd (none_kept (subtree_with pointer edges) kept) }
     where
       none_kept : (s : Subtree) → None ≡ Some s → ⊥
       none_kept s e = cc
@@ -360,6 +380,7 @@ module _ (fs : Filesystem) where
     knows = two.knows;
   }
 
+  -- a pointer alone changes nothing of what is kept of trees
   child_same : (seen : WalkSeen) (addr : ℕ) (place : RootPlace) → walk_step seen (Child addr place) ≡ seen
   child_same seen addr place =
       let broken_is : seen.broken ++ [] ≡ seen.broken = append-nil seen.broken in
@@ -386,33 +407,34 @@ module _ (fs : Filesystem) where
   }
 
   -- a subtree that is kept is passed
-  pub walked_passed : (level : ℕ) (spot : Spot) (old new : WalkSeen) (known : Known) (edges : Option Edges) → IsKept known level spot edges
-      → new ≡ passed old edges → Knows fs old known → Walked fs (subtree_marks fs level spot) old new known edges
-  walked_passed level spot old new known edges kept is knows =
-      let can = knows.all level spot edges kept in
-      let same = is ∙ pass_is old (subtree_marks fs level spot) edges can in
-      record { seen = same; edges_are = can.edges_are; knows = knows_on old new known (subtree_marks fs level spot) same knows }
+  pub walked_passed : (level : ℕ) (pointer : BlockPointer) (old new : WalkSeen) (known : Known) (edges : Option Edges) → IsSubtreeKept known level pointer edges
+      → new ≡ passed old edges → Knows fs old known → Walked fs (subtree_marks fs level pointer) old new known edges
+  walked_passed level pointer old new known edges kept is knows =
+      let can = knows.all level pointer edges kept in
+      let same = is ∙ pass_is old (subtree_marks fs level pointer) edges can in
+      record { seen = same; edges_are = can.edges_are; knows = knows_on old new known (subtree_marks fs level pointer) same knows }
 
   -- one that was walked is kept
-  pub walked_kept : (level : ℕ) (spot : Spot) (old new : WalkSeen) (known : Known) (edges : Option Edges)
-      → is_nothing (new.broken ++ new.overlapping) ≡ true → Walked fs (subtree_marks fs level spot) old new known edges
-      → Walked fs (subtree_marks fs level spot) old new (with_subtree known level spot edges) edges
-  walked_kept level spot old new known edges sound one = record {
+  pub walked_kept : (level : ℕ) (pointer : BlockPointer) (old new : WalkSeen) (known : Known) (edges : Option Edges)
+      → is_nothing (new.broken ++ new.overlapping) ≡ true → Walked fs (subtree_marks fs level pointer) old new known edges
+      → Walked fs (subtree_marks fs level pointer) old new (with_subtree known level pointer edges) edges
+  walked_kept level pointer old new known edges sound one = record {
     seen = one.seen;
     edges_are = one.edges_are;
-    knows = knows_more new known level spot edges one.knows
-        (can_pass old new (subtree_marks fs level spot) edges one.seen one.edges_are sound);
+    knows = knows_more new known level pointer edges one.knows
+        (can_pass old new (subtree_marks fs level pointer) edges one.seen one.edges_are sound);
   }
 
   -- one child more
-  pub walked_more : (addr level : ℕ) (spots : List Spot) (i : ℕ) (d : Spot) (a b c : WalkSeen) (known known' : Known) (front back : Option Edges)
-      → i < length spots → Walked fs (children_marks fs addr level (take i spots)) a b known front
-      → Walked fs (subtree_marks fs level (get_or spots i d)) b c known' back
-      → Walked fs (children_marks fs addr level (take (i + 1) spots)) a c known' (joined front back)
-  walked_more addr level spots i d a b c known known' front back below one two =
-      let spot = get_or spots i d in
+  pub walked_more : (addr level : ℕ) (block_pointers : List BlockPointer) (i : ℕ) (d : BlockPointer) (a b c : WalkSeen) (known known' : Known)
+      (front back : Option Edges)
+      → i < length block_pointers → Walked fs (children_marks fs addr level (take i block_pointers)) a b known front
+      → Walked fs (subtree_marks fs level (get_or block_pointers i d)) b c known' back
+      → Walked fs (children_marks fs addr level (take (i + 1) block_pointers)) a c known' (joined front back)
+  walked_more addr level block_pointers i d a b c known known' front back below one two =
+      let pointer = get_or block_pointers i d in
       let tour = child_tour first_key last_key (subtree_marks fs level) addr level in
       subst (λ marks. Walked fs marks a c known' (joined front back))
-      (sym (ap (flat_map tour) (take_more spots i d below) ∙ flat_more tour (take i spots) spot))
-      (walked_then (children_marks fs addr level (take i spots)) (tour spot) a b c known known' front back one
-      (walked_child (subtree_marks fs level spot) b c known' back addr (place_on level spot) two))
+      (sym (ap (flat_map tour) (take_more block_pointers i d below) ∙ flat_more tour (take i block_pointers) pointer))
+      (walked_then (children_marks fs addr level (take i block_pointers)) (tour pointer) a b c known known' front back one
+      (walked_child (subtree_marks fs level pointer) b c known' back addr (place_on level pointer) two))

@@ -1,5 +1,5 @@
 -- Extents and uses that were read.
-use Rattle.std.proofs.Common.{◌≡◌, ℕ, Bool, true, false, ◌||◌, List, [], ◌++◌, map, flat_map, fold, Result, Ok, Err, refl, sym, ap, ◌∙◌}
+use Rattle.std.proofs.Common.{◌≡◌, ℕ, Bool, true, false, ◌||◌, List, [], ◌++◌, map, flat_map, fold, Ok, Err, refl, sym, ap, ◌∙◌}
 use Rattle.std.proofs.lemmas.List.Folds.{list_any-append}
 use Rattle.btr_check_space.specs.Groups.{group_findings}
 use Rattle.btr_check_space.specs.declared.group.Group.{Group}
@@ -11,7 +11,7 @@ use Rattle.btr_findings.specs.Findings.{Adds, has, in_order, is_one_of, is_same,
 use Rattle.btr_findings.specs.declared.extent.Extent.{Extent}
 use Rattle.btr_refs.proofs.UsesKept.{misused_any, refs_all, uses_all}
 use Rattle.btr_refs.specs.Differences.{count_findings, total_findings}
-use Rattle.btr_refs.specs.Extents.{Kept}
+use Rattle.btr_refs.specs.Extents.{KeptExtents}
 use Rattle.btr_refs.specs.Forward.{Tally, Uses, no_uses, nothing_counted, root_use, tally_with, with_use}
 use Rattle.btr_tour.specs.Tour.{Reached, whole, blocks_met}
 use Rattle.btr_tour.specs.declared.both.Both.{Both}
@@ -36,15 +36,15 @@ abbrev pub all_counted : Filesystem → Tally
 all_counted fs = record { stored = stored fs; uses = fold (with_use (stored fs)) no_uses (all_uses fs) }
 
 -- nothing is counted beside what was collected
-pub begun_of : (fs : Filesystem) (both : Both Kept (List Group)) (begun : Begun) → AreCollected fs both → begun.forward ≡ nothing_counted both.first
+pub begun_of : (fs : Filesystem) (both : Both KeptExtents (List Group)) (begun : Begun) → AreCollected fs both → begun.forward ≡ nothing_counted both.first
     → IsFull both.first.extents begun.full → IsBegun fs begun
 begun_of fs both begun is same full = record {
   forward = same ∙ ap nothing_counted is.stored;
-  full = λ addr. full addr ∙ ap (λ (kept : Kept). refers_by_address kept.extents addr) is.stored;
+  full = λ addr. full addr ∙ ap (λ (kept : KeptExtents). refers_by_address kept.extents addr) is.stored;
 }
 
 -- what was put of it is what is found on totals and on block groups
-pub collected_put : (fs : Filesystem) (both : Both Kept (List Group)) (chunks : List Chunk) (bytes : ℕ) (a b : FoundSet) → AreCollected fs both
+pub collected_put : (fs : Filesystem) (both : Both KeptExtents (List Group)) (chunks : List Chunk) (bytes : ℕ) (a b : FoundSet) → AreCollected fs both
     → chunks ≡ fs.chunks → bytes ≡ fs.sup.bytes_used
     → Adds (total_findings both.first.extents both.first.refs ++ group_findings chunks both.first.extents both.second bytes) a b
     → Adds (found_on_totals fs ++ found_on_groups fs) a b
@@ -54,9 +54,11 @@ collected_put fs both chunks bytes a b is same used =
     (λ i. total_findings (is.stored i).extents (is.stored i).refs ++ group_findings (same i) (is.stored i).extents (is.groups i) (used i))
 
 module _ (fs : Filesystem) (all : List TreeRoot) where
+  -- the blocks that the trees reach, each once
   abbrev blocks : List Reached
   blocks = first_met [] (flat_map (λ (tree : TreeRoot). blocks_met (whole fs.blocks tree.place)) all)
 
+  -- the blocks that the trees reach are there
   blocks_there : AreThere fs.blocks blocks
   blocks_there = first_there fs.blocks [] (flat_map (λ (tree : TreeRoot). blocks_met (whole fs.blocks tree.place)) all) (trees_there fs.blocks all)
 
@@ -76,6 +78,7 @@ module _ (fs : Filesystem) (all : List TreeRoot) where
       ∙ uses_all (all_uses fs) (nothing_counted (stored fs))
 
 module _ (fs : Filesystem) (forward : Tally) (is : forward ≡ all_counted fs) where
+  -- the uses of the filesystem as they are counted
   abbrev uses : Uses
   uses = fold (with_use (stored fs)) no_uses (all_uses fs)
 

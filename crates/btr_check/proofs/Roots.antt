@@ -24,6 +24,7 @@ use Rattle.btr_walk.specs.declared.found.Found.{Found}
 use Rattle.btr_walk.specs.Showing.{item_of}
 use Rattle.btr_base.specs.declared.memory.Memory.{Memory}
 
+-- a ROOT_ITEM gives the same tree, whether it is described as it is read or after it was
 both_ways : (key : Key) (r : Result RootItem ItemFault) → result_ok (map_ok (described key) r) ≡ option_map (described key) (result_ok r)
 both_ways key (Ok root) = refl
 both_ways key (Err fault) = refl
@@ -36,6 +37,7 @@ tree_read key body read is same =
     ∙ ap (λ b. if b then option_map (described key) (result_ok (root_item_of body)) else None) (sym (eq-eqb _ _ is))
 
 module _ (fs : Filesystem) (seen : RootSeen) (is : seen ≡ fold root_step (nothing_seen (kind_of_sums fs)) (whole fs.blocks (root_tree fs.sup).place)) where
+  -- what is kept of the root tree at its end
   walk : IsRootWalk (nothing_seen (kind_of_sums fs)) (fold root_step (nothing_seen (kind_of_sums fs)) (whole fs.blocks (root_tree fs.sup).place))
       (whole fs.blocks (root_tree fs.sup).place)
   walk = root_walked (whole fs.blocks (root_tree fs.sup).place) (nothing_seen (kind_of_sums fs))

@@ -25,9 +25,11 @@ use Rattle.btr_check.specs.Running.{World, CanCheck, filesystem, FaultUnread, St
 pub volume_none : (vol : Volume) → SameVolume vol vol
 volume_none vol = record { sup = refl; store = same_none vol.store }
 
+-- a volume that two calls left as it was is as before the first one
 pub volume_then : {a b c : Volume} → SameVolume a b → SameVolume b c → SameVolume a c
 volume_then one two = record { sup = two.sup ∙ one.sup; store = same_then one.store two.store }
 
+-- volumes that are alike have the same filesystem by a block map
 same_filesystem : (a b : Volume) (B : Map) → SameVolume a b → filesystem b B ≡ filesystem a B
 same_filesystem a b B same = λ i. record { sup = same.sup i; chunks = ap (λ (layout : Layout). layout.chunks) same.store.layout i; blocks = B }
 
@@ -39,6 +41,7 @@ fault_more P Q more (Unmapped addr) h = tt
 fault_more P Q more (Crosses addr) h = tt
 fault_more P Q more (Malformed addr) h = tt
 
+-- more may be said of a block that a stop says could not be read
 pub stop_more : (P Q : UnreadBlock → Type 0) → ((u : UnreadBlock) → P u → Q u) → (stop : Stop) → StopUnread P stop → StopUnread Q stop
 stop_more P Q more (NoTree id) h = tt
 stop_more P Q more (Tree f) h = fault_more P Q more f h
@@ -50,6 +53,7 @@ stop_more P Q more Sink h = tt
 stop_more P Q more Out h = tt
 stop_more P Q more NoMemory h = tt
 
+-- more may be said of a block that an answer says could not be read
 pub unread_more : {A : Type 0} (P Q : UnreadBlock → Type 0) → ((u : UnreadBlock) → P u → Q u) → (r : Result A Stop) → IfUnread P r → IfUnread Q r
 unread_more P Q more (Ok a) h = tt
 unread_more P Q more (Err stop) h = stop_more P Q more stop h
@@ -186,6 +190,7 @@ listed_unread P Sink h = tt
 listed_unread P Out h = tt
 listed_unread P NoMemory h = tt
 
+-- a stop that says what is wrong with the list of the trees is one of a call that only reads blocks
 pub listed_quiet : (stop : Stop) → OfList stop → OfReading stop
 listed_quiet (NoTree id) h = tt
 listed_quiet (Tree f) h = absurd h
@@ -197,12 +202,14 @@ listed_quiet Sink h = absurd h
 listed_quiet Out h = absurd h
 listed_quiet NoMemory h = tt
 
+-- the stop by a fault of the root tree doesn't say that a block could not be read
 pub fault_unread : (P : UnreadBlock → Type 0) (fault : BlockFault) → StopUnread P (fault_stop fault)
 fault_unread P (block.Lost addr) = tt
 fault_unread P (block.Malformed addr) = tt
 fault_unread P (block.Unmapped addr) = tt
 fault_unread P (block.Crosses addr) = tt
 
+-- the stop by a fault of the root tree is one of a call that only reads blocks
 pub fault_quiet : (fault : BlockFault) → OfReading (fault_stop fault)
 fault_quiet (block.Lost addr) = tt
 fault_quiet (block.Malformed addr) = tt

@@ -29,13 +29,13 @@ use Rattle.btr_findings.specs.declared.kind.Kind.TheVariants as kind
 use Rattle.btr_findings.specs.Findings.{FoundSet, TakesFirst, finding_cmp, found, in_order, shown_sum, unless}
 use Rattle.btr_tour.specs.Tour.{items_met}
 use Rattle.btr_volume.specs.declared.root.TreeRoot.{TreeRoot}
-use Rattle.btr_walk.specs.Le.{TreeItem, root_spot}
-use Rattle.btr_walk.specs.declared.spot.Spot.{Spot}
+use Rattle.btr_walk.specs.Le.{TreeItem, root_pointer}
+use Rattle.btr_walk.specs.declared.block_pointer.BlockPointer.{BlockPointer}
 use Rattle.btr_check.specs.Data.{sum_runs}
 use Rattle.btr_check.specs.FileTrees.{Treats, file_tree_findings, missing_findings, names_of, root_entries, with_entries}
 use Rattle.btr_check.specs.Filesystem.{Filesystem}
 use Rattle.btr_check.specs.Passing.{Opens, children_marks, subtree_marks}
-use Rattle.btr_check.specs.SoundTrees.{AreBelow, AreKept, IsKeptOf, IsLike, IsSound, items_below}
+use Rattle.btr_check.specs.SoundTrees.{AreBelow, AreKept, IsKeptOf, IsLike, IsSoundTree, items_below}
 use Rattle.btr_check.specs.Trees.{items_in}
 use Rattle.btr_check.specs.Walking.{WalkSeen}
 use Rattle.btr_check.specs.declared.file_tree.FileTree.{FileTree}
@@ -46,13 +46,11 @@ use Rattle.btr_check.specs.declared.sound_tree.SoundTree.{SoundTree}
 use Rattle.btr_check.proofs.FileTrees.{IsMetOf, filter_twice}
 use Rattle.btr_check.proofs.Openings.{AreChildren}
 use Rattle.btr_check.proofs.Passing.{items_then}
-
-pub both_none : {X : Type 0} (xs ys : List X) → xs ++ ys ≡ [] → (xs ≡ []) × (ys ≡ [])
-both_none [] ys e = (refl, e)
-both_none (x ∷ xs) ys e = cc
+use Rattle.btr_check_differences.proofs.Missing.{both_none}
 
 -- a rule that is kept is kept whatever it says where it is broken
 module _ {X : Type 0} (kept : X → Bool) (m n : X → Finding) where
+  -- where a rule finds nothing on some things, it finds nothing, whatever else its findings say
   rule_same : (xs : List X) → filter_map (λ x. unless (kept x) (m x)) xs ≡ [] → filter_map (λ x. unless (kept x) (n x)) xs ≡ []
   rule_same [] h = refl
   rule_same (x ∷ xs) h = by (kept x) h (rule_same xs)
@@ -65,12 +63,15 @@ module _ {X : Type 0} (kept : X → Bool) (m n : X → Finding) where
 
 -- the number of a tree doesn't matter to whether something is wrong with its names
 module _ (ta tb dirid : ℕ) (inodes : List InodeAt) (indexed hashed : List Entry) (refs : List NameRef) (orphans removed : List ℕ) where
+  -- the names of a tree of this number
   abbrev of_tree : ℕ → Names
   of_tree tree = record { tree = tree; dirid = dirid; inodes = inodes; indexed = indexed; hashed = hashed; refs = refs; orphans = orphans }
 
+  -- a finding on an entry of a tree
   abbrev at_entry : Kind → ℕ → Entry → Finding
   at_entry word tree entry = found word (tree ∷ entry.dir ∷ entry.offset ∷ [])
 
+  -- where nothing is wrong with names as those of one tree, nothing is wrong with them as those of another
   none_same : findings_but removed (of_tree ta) ≡ [] → findings_but removed (of_tree tb) ≡ []
   none_same h =
       let f1 = filter_map (entry_item ta removed hashed) indexed in
@@ -107,6 +108,7 @@ module _ (ta tb dirid : ℕ) (inodes : List InodeAt) (indexed hashed : List Entr
       (λ (at : InodeAt). found kind.Orphan (tb ∷ at.number ∷ [])) inodes r8.1 in
       λ i. e1 i ++ e2 i ++ e3 i ++ e4 i ++ e5 i ++ e6 i ++ e7 i ++ e8 i
 
+-- where nothing is wrong with the names in some items of one tree, nothing is with the same in another
 names_same : (ta tb dirid : ℕ) (items : List TreeItem) → names_findings (names_in ta dirid items) ≡ [] → names_findings (names_in tb dirid items) ≡ []
 names_same ta tb dirid items h =
     let all = names_in ta dirid items in
@@ -114,6 +116,7 @@ names_same ta tb dirid items h =
 
 -- nor to what is missing of its checksums
 module _ (chunks : List Chunk) (runs : List SumRun) (ta tb : ℕ) where
+  -- where nothing is missing of a range as one tree's, nothing is missing of it as another's
   range_same : (b : Bool) (range : UsedRange) → (if b then [] else used_missing chunks runs ta range) ≡ []
       → (if b then [] else used_missing chunks runs tb range) ≡ []
   range_same true range h = refl
@@ -121,6 +124,7 @@ module _ (chunks : List Chunk) (runs : List SumRun) (ta tb : ℕ) where
       (λ sector. found kind.SumMissing (ta ∷ range.inode ∷ shown_sum sector ∷ []))
       (λ sector. found kind.SumMissing (tb ∷ range.inode ∷ shown_sum sector ∷ [])) (used_sectors chunks range) h
 
+  -- where nothing is missing of ranges that are used in one tree, nothing is missing of the same in another
   pub missing_same : (loose : List ℕ) (used : List UsedRange) → tree_missing chunks runs ta loose used ≡ [] → tree_missing chunks runs tb loose used ≡ []
   missing_same loose [] h = refl
   missing_same loose (range ∷ used) h =
@@ -131,32 +135,37 @@ module _ (chunks : List Chunk) (runs : List SumRun) (ta tb : ℕ) where
 
 module _ (fs : Filesystem) where
   -- what stands below the children of a node
-  below_items : (addr level : ℕ) (spots : List Spot) → items_met (children_marks fs addr level spots) ≡ items_below fs level spots
+  below_items : (addr level : ℕ) (block_pointers : List BlockPointer) → items_met (children_marks fs addr level block_pointers)
+      ≡ items_below fs level block_pointers
   below_items addr level [] = refl
-  below_items addr level (spot ∷ spots) =
-      items_then (subtree_marks fs level spot) (children_marks fs addr level spots)
-      ∙ ap (λ l. items_met (subtree_marks fs level spot) ++ l) (below_items addr level spots)
+  below_items addr level (pointer ∷ block_pointers) =
+      items_then (subtree_marks fs level pointer) (children_marks fs addr level block_pointers)
+      ∙ ap (λ l. items_met (subtree_marks fs level pointer) ++ l) (below_items addr level block_pointers)
 
-  are_below : (tree : TreeRoot) (spots : List Spot) → items_in fs.blocks tree ≡ items_below fs (tree.place.level - 1) spots → AreBelow fs tree spots
+  -- blocks under which all items of a tree stand, if there are any, are those below its root
+  are_below : (tree : TreeRoot) (block_pointers : List BlockPointer) → items_in fs.blocks tree ≡ items_below fs (tree.place.level - 1) block_pointers
+      → AreBelow fs tree block_pointers
   are_below tree [] e = tt
-  are_below tree (spot ∷ spots) e = e
+  are_below tree (pointer ∷ block_pointers) e = e
 
   -- the children of a root that was opened
-  pub opens_below : (tree : TreeRoot) (old new : WalkSeen) (opened : Opened) (spots : List Spot)
-      → Opens fs tree.place.level (root_spot tree.place) old new opened → AreChildren opened spots → AreBelow fs tree spots
-  opens_below tree old new (Whole edges) spots h are = absurd are
-  opens_below tree old new (Children all) spots h are =
-      are_below tree spots
+  pub opens_below : (tree : TreeRoot) (old new : WalkSeen) (opened : Opened) (block_pointers : List BlockPointer)
+      → Opens fs tree.place.level (root_pointer tree.place) old new opened → AreChildren opened block_pointers → AreBelow fs tree block_pointers
+  opens_below tree old new (Whole edges) block_pointers h are = absurd are
+  opens_below tree old new (Children all) block_pointers h are =
+      are_below tree block_pointers
       (ap items_met h.2 ∙ below_items tree.place.addr (tree.place.level - 1) all.items ∙ ap (items_below fs (tree.place.level - 1)) (sym are))
 
-  same_items : (a b : TreeRoot) (spots : List Spot) → (spots ≡ [] → ⊥) → a.place.level ≡ b.place.level → AreBelow fs a spots → AreBelow fs b spots
+  -- trees with the same blocks below their roots have the same items
+  same_items : (a b : TreeRoot) (block_pointers : List BlockPointer) → (block_pointers ≡ [] → ⊥) → a.place.level ≡ b.place.level
+      → AreBelow fs a block_pointers → AreBelow fs b block_pointers
       → items_in fs.blocks a ≡ items_in fs.blocks b
   same_items a b [] some level one two = absurd (some refl)
-  same_items a b (spot ∷ spots) some level one two = one ∙ ap (λ l. items_below fs (l - 1) (spot ∷ spots)) level ∙ sym two
+  same_items a b (pointer ∷ block_pointers) some level one two = one ∙ ap (λ l. items_below fs (l - 1) (pointer ∷ block_pointers)) level ∙ sym two
 
   -- a tree that has the same blocks below its root as a sound one is sound
   sound_like : (one : SoundTree) (rooted : RootedTree) → IsKeptOf fs one → IsLike one rooted → (rooted.children.items ≡ [] → ⊥)
-      → AreBelow fs rooted.tree rooted.children.items → IsSound fs rooted.tree one.names
+      → AreBelow fs rooted.tree rooted.children.items → IsSoundTree fs rooted.tree one.names
   sound_like one rooted kept like some below =
       let a = one.rooted.tree in
       let b = rooted.tree in
@@ -175,7 +184,7 @@ module _ (fs : Filesystem) where
       }
 
   -- a sound tree was treated, where its names of subvolumes were kept
-  pub treats_sound : (tree : TreeRoot) (names : Unpaired) (set : FoundSet) (old new : Subvolumes) → IsSound fs tree names
+  pub treats_sound : (tree : TreeRoot) (names : Unpaired) (set : FoundSet) (old new : Subvolumes) → IsSoundTree fs tree names
       → new ≡ subvolumes_at old tree.id names.subvolumes → Treats fs.blocks fs.chunks (sum_runs fs) (tree ∷ []) set set old new
   treats_sound tree names set old new is at = record {
     found = adds_as [] (file_tree_findings fs.blocks fs.chunks (sum_runs fs) tree ++ []) set set (sym (ap (λ l. l ++ []) is.nothing)) (adds_none set);
@@ -184,6 +193,7 @@ module _ (fs : Filesystem) where
         ∙ ap (with_entries old) (sym (append-nil (root_entries fs.blocks tree)));
   }
 
+  -- each of the trees that are kept is sound
   all_at : (xs : List SoundTree) (i : ℕ) (d : SoundTree) → i < length xs → AreKept fs xs → IsKeptOf fs (get_or xs i d)
   all_at [] i d lt all = absurd (omega (arith, lt))
   all_at (x ∷ xs) zero d lt all = all.0
@@ -215,33 +225,41 @@ module _ (fs : Filesystem) where
         plain = λ yes. sym is.plain ∙ yes;
       }
 
+  -- trees that are kept, and one more behind them
   pub kept_after : (xs : List SoundTree) (one : SoundTree) → AreKept fs xs → IsKeptOf fs one → AreKept fs (xs ++ one ∷ [])
   kept_after [] one all is = (is, tt)
   kept_after (x ∷ xs) one all is = (all.0, kept_after xs one all.1 is)
 
+  -- of trees that are kept the last one is, and so are those before it
   pub kept_before : (xs : List SoundTree) (one : SoundTree) → AreKept fs (xs ++ one ∷ []) → AreKept fs xs × IsKeptOf fs one
   kept_before [] one all = (tt, all.0)
   kept_before (x ∷ xs) one all = let more = kept_before xs one all.1 in ((all.0, more.0), more.1)
 
+  -- of trees that are kept those behind the first one are
   pub kept_behind : (xs : List SoundTree) → AreKept fs xs → AreKept fs (drop 1 xs)
   kept_behind [] all = tt
   kept_behind (x ∷ xs) all = all.1
 
 -- two lists that are the same so far
-pub spots_more : (xs ys : List Spot) (i : ℕ) (d : Spot) → i < length xs → i < length ys → take i xs ≡ take i ys → get_or xs i d ≡ get_or ys i d
+pub pointers_more : (xs ys : List BlockPointer) (i : ℕ) (d : BlockPointer) → i < length xs → i < length ys → take i xs ≡ take i ys → get_or xs i d
+    ≡ get_or ys i d
     → take (i + 1) xs ≡ take (i + 1) ys
-spots_more xs ys i d lt lt' before here = take_more xs i d lt ∙ (λ j. before j ++ here j ∷ []) ∙ sym (take_more ys i d lt')
+pointers_more xs ys i d lt lt' before here = take_more xs i d lt ∙ (λ j. before j ++ here j ∷ []) ∙ sym (take_more ys i d lt')
 
-pub spots_all : (xs ys : List Spot) (i : ℕ) → length xs ≤ i → length ys ≤ i → take i xs ≡ take i ys → xs ≡ ys
-spots_all xs ys i all all' same = sym (take_all i xs all) ∙ same ∙ take_all i ys all'
+-- two lists that are the same up to their ends are the same
+pub pointers_all : (xs ys : List BlockPointer) (i : ℕ) → length xs ≤ i → length ys ≤ i → take i xs ≡ take i ys → xs ≡ ys
+pointers_all xs ys i all all' same = sym (take_all i xs all) ∙ same ∙ take_all i ys all'
 
-some_spots : (xs : List Spot) → (length xs == 0) ≡ false → xs ≡ [] → ⊥
-some_spots [] e is = cc
-some_spots (x ∷ xs) e is = cc
+-- a list whose length isn't 0 isn't empty
+some_block_pointers : (xs : List BlockPointer) → (length xs == 0) ≡ false → xs ≡ [] → ⊥
+some_block_pointers [] e is = cc
+some_block_pointers (x ∷ xs) e is = cc
 
-pub children_some : (xs ys : List Spot) → xs ≡ ys → (length xs == 0) ≡ false → ys ≡ [] → ⊥
-children_some xs ys same e is = some_spots xs e (same ∙ is)
+-- a list isn't empty where the same list's length isn't 0
+pub children_some : (xs ys : List BlockPointer) → xs ≡ ys → (length xs == 0) ≡ false → ys ≡ [] → ⊥
+children_some xs ys same e is = some_block_pointers xs e (same ∙ is)
 
+-- no test both holds and fails
 pub not_both : (b : Bool) → b ≡ true → b ≡ false → ⊥
 not_both true p q = cc
 not_both false p q = cc
@@ -256,10 +274,12 @@ insert_some (x ∷ xs) k e = by (finding_cmp k x) e
     by Equal e = cc
     by Greater e = cc
 
+-- where the list of the findings in order is empty, there are none
 none_in_order : (all : List Finding) → in_order all ≡ [] → all ≡ []
 none_in_order [] e = refl
 none_in_order (finding ∷ all) e = absurd (insert_some (in_order all) finding e)
 
+-- where no first finding is taken from the list in order, there are none
 pub nothing_listed : (all list new : List Finding) (first : Option Finding) → list ≡ in_order all → TakesFirst list new first → is_none first ≡ true
     → all ≡ []
 nothing_listed all list new None is takes none = none_in_order all (sym is ∙ takes.0)

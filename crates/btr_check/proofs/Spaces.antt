@@ -36,6 +36,7 @@ module _ (fs : Filesystem) where
   devices_are law tree none met is empty folded =
       collected device_in law fs.blocks (Some tree) none met empty folded ∙ ap (λ t. filter_map device_in (items_if fs.blocks (Some t))) is
 
+  -- what was put of device extents and devices is what is found on devices
   pub devices_put : (chunks : List Chunk) (extent_list : List DeviceExtent) (device_list : List StatedDevice) (a b : FoundSet) → chunks ≡ fs.chunks
       → extent_list ≡ device_extents fs → device_list ≡ devices fs
       → Adds (device_findings chunks extent_list device_list) a b → Adds (found_on_devices fs) a b

@@ -8,7 +8,7 @@ use Rattle.btr_tour.specs.Tour.{Reached, whole, blocks_met}
 use Rattle.btr_volume.specs.declared.root.TreeRoot.{TreeRoot}
 use Rattle.btr_volume.specs.declared.stop.Stop.{Stop}
 use Rattle.btr_walk.specs.declared.place.RootPlace.{RootPlace}
-use Rattle.btr_walk.specs.Le.{root_spot}
+use Rattle.btr_walk.specs.Le.{root_pointer}
 use Rattle.btr_check.proofs.Firsts.{met_once}
 use Rattle.btr_check.proofs.Folding.{walked, apart_from, apart_all}
 use Rattle.btr_check.proofs.Lists.{flat_more}
@@ -24,10 +24,12 @@ pub on_ok : {A : Type 0} (r : Result A Stop) (P Q : Type 0) → (P → Q) → On
 on_ok (Ok a) P Q f h = f h
 on_ok (Err stop) P Q f h = tt
 
+-- where a block that was met stands
 abbrev at : Reached → RootPlace
 at one = one.place
 
 module _ (fs : Filesystem) where
+  -- the blocks that a tour of a tree meets
   abbrev blocks : TreeRoot → List Reached
   blocks tree = blocks_met (whole fs.blocks tree.place)
 
@@ -74,7 +76,7 @@ module _ (fs : Filesystem) where
   -- one tree more, whose blocks were walked
   pub tree_walked : (before : List TreeRoot) (tree : TreeRoot) (old begun' new : WalkSeen) (first known after : Known) (edges : Option Edges)
       → begun' ≡ begun old → known ≡ first → HasWalked fs before old → Knows fs old first
-      → Walks fs (subtree_marks fs tree.place.level (root_spot tree.place)) begun' new known after (Ok edges)
+      → Walks fs (subtree_marks fs tree.place.level (root_pointer tree.place)) begun' new known after (Ok edges)
       → HasWalked fs (before ++ tree ∷ []) new × Knows fs new after
   tree_walked before tree old begun' new first known after edges is same had knows walks =
       let begins = subst (λ s. Knows fs s known) (sym is) (subst (Knows fs (begun old)) (sym same) (knows_begun fs old first knows)) in

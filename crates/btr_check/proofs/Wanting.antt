@@ -14,7 +14,7 @@ use Rattle.btr_walk.specs.Reading.{Map, Reads, UnreadBlock}
 use Rattle.btr_walk.specs.declared.fault.TreeFault.{TreeFault}
 use Rattle.btr_walk.specs.declared.fault.TreeFault.TheVariants.{Lost, Unread, Unmapped, Crosses, Malformed}
 use Rattle.btr_walk.specs.declared.place.RootPlace.{RootPlace}
-use Rattle.btr_walk.specs.declared.spot.Spot.{Spot}
+use Rattle.btr_walk.specs.declared.block_pointer.BlockPointer.{BlockPointer}
 use Rattle.btr_check.proofs.Openings.{AreChildren}
 use Rattle.btr_check.proofs.Wants.{first_in, first_or_later, later_in, none_in, wants_met-append}
 use Rattle.btr_check.specs.Filesystem.{Filesystem, is_file_tree}
@@ -28,24 +28,29 @@ use Rattle.btr_check.specs.Wanted.{OfTree, OfTrees, subtree_wants, want_at, want
 use Rattle.btr_check.specs.declared.opening.Opened.{Opened}
 use Rattle.btr_check.specs.declared.opening.Opened.TheVariants.{Whole, Children}
 use Rattle.btr_check.specs.declared.places.BlockId.{BlockId}
+use Rattle.btr_check.proofs.ExtentTrees.{same_tree, not_some}
 
 -- ---- lists
 
+-- what is made of a thing in a list is among all that is made of the list
 pub in_flat : {X Y : Type 0} (f : X → List Y) (xs : List X) (x : X) (y : Y) → Contains xs x → Contains (f x) y → Contains (flat_map f xs) y
 in_flat f [] x y h here = none_in x _ h
 in_flat f (z ∷ zs) x y h here = ⊎_elim (λ is. Contains-append_left (f z) (flat_map f zs) y (subst (λ w. Contains (f w) y) (sym is) here))
     (λ later. Contains-append_right (f z) (flat_map f zs) y (in_flat f zs x y later here)) (first_or_later z zs x h)
 
+-- what is among all that is made of a list is made of a thing in it
 of_flat : {X Y : Type 0} (f : X → List Y) (xs : List X) (y : Y) → Contains (flat_map f xs) y → (x : X) × Contains xs x × Contains (f x) y
 of_flat f [] y h = none_in y _ h
 of_flat f (z ∷ zs) y h = ⊎_elim (λ here. (z, first_in z zs, here))
     (λ later. let one = of_flat f zs y later in (one.0, later_in z zs one.0 one.1, one.2)) (Contains-append_cases (f z) (flat_map f zs) y h)
 
+-- what is in a mapped list comes from a thing in the list
 of_map : {X Y : Type 0} (f : X → Y) (xs : List X) (y : Y) → Contains (map f xs) y → (x : X) × Contains xs x × (f x ≡ y)
 of_map f [] y h = none_in y _ h
 of_map f (z ∷ zs) y h = ⊎_elim (λ is. (z, first_in z zs, is))
     (λ later. let one = of_map f zs y later in (one.0, later_in z zs one.0 one.1, one.2)) (first_or_later (f z) (map f zs) y h)
 
+-- what is left by a test was in the list
 of_filter : {X : Type 0} (test : X → Bool) (xs : List X) (x : X) → Contains (filter test xs) x → Contains xs x
 of_filter test [] x h = h
 of_filter test (y ∷ ys) x h = by (of_filter test ys x) (test y) h
@@ -57,12 +62,6 @@ of_filter test (y ∷ ys) x h = by (of_filter test ys x) (test y) h
 
 -- ---- trees
 
-some_same : (a b : TreeRoot) → Some a ≡ Some b → a ≡ b
-some_same a b e = cc
-
-not_some : (a : TreeRoot) (P : Type 0) → None ≡ Some a → P
-not_some a P e = cc
-
 -- the last one of an id is one of the list
 pub last_in : (id : ℕ) (all : List TreeRoot) (tree : TreeRoot) → last_of id all ≡ Some tree → Contains all tree
 last_in id [] tree is = not_some tree _ is
@@ -71,7 +70,7 @@ last_in id (one ∷ more) tree is = by (last_in id more tree) (last_of id more) 
     by : (last_of id more ≡ Some tree → Contains more tree) → (o : Option TreeRoot) (b : Bool) → last_of id more ≡ o → or_here o b one ≡ Some tree
         → Contains (one ∷ more) tree
     by rest (Some later) b was e = later_in one more tree (rest (was ∙ e))
-    by rest None true was e = subst (Contains (one ∷ more)) (some_same one tree e) (first_in one more)
+    by rest None true was e = subst (Contains (one ∷ more)) (same_tree one tree e) (first_in one more)
     by rest None false was e = not_some tree _ e
 
 module _ (fs : Filesystem) where
@@ -82,10 +81,12 @@ module _ (fs : Filesystem) where
       later_in (chunk_tree fs.sup) behind tree
       (later_in (root_tree fs.sup) (listed fs.sup fs.blocks) tree (subst (λ l. Contains l tree) lists h))
 
+  -- a block of the chunk tree is one of a tree of the filesystem
   pub chunk_wanted : (tree : TreeRoot) (want : Want) → tree ≡ chunk_tree fs.sup → OfTree tree.place fs want → OfAllTrees fs want
   chunk_wanted tree want is h =
       (tree, subst (Contains (trees fs.sup fs.blocks)) (sym is) (first_in (chunk_tree fs.sup) (root_tree fs.sup ∷ listed fs.sup fs.blocks)), h)
 
+  -- a block of the root tree is one of a tree of the filesystem
   pub root_wanted : (tree : TreeRoot) (want : Want) → tree ≡ root_tree fs.sup → OfTree tree.place fs want → OfAllTrees fs want
   root_wanted tree want is h = (
     tree,
@@ -127,6 +128,7 @@ module _ (fs : Filesystem) where
 
 -- ---- blocks that were met
 
+-- a block that a tour met is one that it wants
 met_wanted : (marks : List Mark) (one : Reached) → Contains (blocks_met marks) one → Contains (wants_met marks) (want_at one.place)
 met_wanted [] one h = none_in one _ h
 met_wanted (Block place block ∷ more) one h =
@@ -137,6 +139,7 @@ met_wanted (Child addr place ∷ more) one h = later_in (want_at place) (wants_m
 met_wanted (Item item ∷ more) one h = met_wanted more one h
 met_wanted (Left fault ∷ more) one h = met_wanted more one h
 
+-- a block that wasn't met before is one of those that are met
 first_met_in : (before : List BlockId) (all : List Reached) (one : Reached) → Contains (first_met before all) one → Contains all one
 first_met_in before [] one h = h
 first_met_in before (x ∷ xs) one h = by (λ more. first_met_in more xs one) (is_among before (at_place x.place)) h
@@ -164,41 +167,46 @@ places_wanted fs all places want are h =
 -- ---- subtrees
 
 module _ (fs : Filesystem) where
-  pub here_wanted : (level : ℕ) (spot : Spot) (want : Want) → want ≡ want_of level spot → OfSubtree level spot fs want
-  here_wanted level spot want is =
-      subst (Contains (subtree_wants fs.blocks level spot)) (sym is) (first_in (want_of level spot) (wants_met (subtree_marks fs level spot)))
+  -- the block at a pointer is one of the subtree there
+  pub here_wanted : (level : ℕ) (pointer : BlockPointer) (want : Want) → want ≡ want_of level pointer → OfSubtree level pointer fs want
+  here_wanted level pointer want is =
+      subst (Contains (subtree_wants fs.blocks level pointer)) (sym is) (first_in (want_of level pointer) (wants_met (subtree_marks fs level pointer)))
 
-  children_wanted : (addr level : ℕ) (spots : List Spot) (want : Want) (spot : Spot) → Contains spots spot → OfSubtree level spot fs want
-      → Contains (wants_met (children_marks fs addr level spots)) want
-  children_wanted addr level [] want spot h of = none_in spot _ h
-  children_wanted addr level (s ∷ ss) want spot h of =
+  -- a block of a child's subtree is wanted below the children of the node
+  children_wanted : (addr level : ℕ) (block_pointers : List BlockPointer) (want : Want) (pointer : BlockPointer) → Contains block_pointers pointer
+      → OfSubtree level pointer fs want
+      → Contains (wants_met (children_marks fs addr level block_pointers)) want
+  children_wanted addr level [] want pointer h of = none_in pointer _ h
+  children_wanted addr level (s ∷ ss) want pointer h of =
       let here : List Want = subtree_wants fs.blocks level s in
       let later : List Mark = children_marks fs addr level ss in
       let all : wants_met (Child addr (place_of level s) ∷ subtree_marks fs level s ++ later) ≡ here ++ wants_met later =
       ap (λ l. want_of level s ∷ l) (wants_met-append (subtree_marks fs level s) later) in
       subst (λ l. Contains l want) (sym all)
       (⊎_elim (λ is. Contains-append_left here (wants_met later) want (subst (λ x. OfSubtree level x fs want) (sym is) of))
-      (λ more. Contains-append_right here (wants_met later) want (children_wanted addr level ss want spot more of)) (first_or_later s ss spot h))
+      (λ more. Contains-append_right here (wants_met later) want (children_wanted addr level ss want pointer more of)) (first_or_later s ss pointer h))
 
   -- the children of a block that was opened
-  pub below_wanted : (level : ℕ) (spot : Spot) (old new : WalkSeen) (opened : Opened) (spots : List Spot) (want : Want) → Opens fs level spot old new opened
-      → AreChildren opened spots → OfSubtrees (level - 1) spots fs want → OfSubtree level spot fs want
-  below_wanted level spot old new (Whole edges) spots want opens are h = absurd are
-  below_wanted level spot old new (Children all) spots want opens are h =
-      let below : List Mark = children_marks fs spot.addr (level - 1) all.items in
-      later_in (want_of level spot) (wants_met (subtree_marks fs level spot)) want
+  pub below_wanted : (level : ℕ) (pointer : BlockPointer) (old new : WalkSeen) (opened : Opened) (block_pointers : List BlockPointer) (want : Want)
+      → Opens fs level pointer old new opened
+      → AreChildren opened block_pointers → OfSubtrees (level - 1) block_pointers fs want → OfSubtree level pointer fs want
+  below_wanted level pointer old new (Whole edges) block_pointers want opens are h = absurd are
+  below_wanted level pointer old new (Children all) block_pointers want opens are h =
+      let below : List Mark = children_marks fs pointer.addr (level - 1) all.items in
+      later_in (want_of level pointer) (wants_met (subtree_marks fs level pointer)) want
       (subst (λ l. Contains (wants_met l) want) (sym opens.2)
-      (later_in (want_of level spot) (wants_met below) want
-      (children_wanted spot.addr (level - 1) all.items want h.0 (subst (λ l. Contains l h.0) are h.1) h.2)))
+      (later_in (want_of level pointer) (wants_met below) want
+      (children_wanted pointer.addr (level - 1) all.items want h.0 (subst (λ l. Contains l h.0) are h.1) h.2)))
 
--- a block at a spot that could not be read is the one that is wanted there
-pub read_unread : (Is : UnreadBlock → Want → Type 0) (B : Map) (level : ℕ) (spot : Spot) (store : Blocks) (f : TreeFault) → Reads Is B level spot store (Err f)
-    → FaultUnread (λ u. (want : Want) × (want ≡ want_of level spot) × Is u want) f
-read_unread Is B level spot store (Lost a) h = tt
-read_unread Is B level spot store (Unread a slot) h = (want_of level spot, refl, h)
-read_unread Is B level spot store (Unmapped a) h = tt
-read_unread Is B level spot store (Crosses a) h = tt
-read_unread Is B level spot store (Malformed a) h = tt
+-- a block at a pointer that could not be read is the one that is wanted there
+pub read_unread : (Is : UnreadBlock → Want → Type 0) (B : Map) (level : ℕ) (pointer : BlockPointer) (store : Blocks) (f : TreeFault)
+    → Reads Is B level pointer store (Err f)
+    → FaultUnread (λ u. (want : Want) × (want ≡ want_of level pointer) × Is u want) f
+read_unread Is B level pointer store (Lost a) h = tt
+read_unread Is B level pointer store (Unread a slot) h = (want_of level pointer, refl, h)
+read_unread Is B level pointer store (Unmapped a) h = tt
+read_unread Is B level pointer store (Crosses a) h = tt
+read_unread Is B level pointer store (Malformed a) h = tt
 
 -- a sector of a run is one of those that have a checksum
 pub run_wanted : (fs : Filesystem) (runs : List SumRun) (sums : Option TreeRoot) (run : SumRun) (want : Want) → AreSums runs sums fs → Contains runs run

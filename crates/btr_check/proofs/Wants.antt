@@ -17,20 +17,20 @@ use Rattle.btr_read.specs.Fate as fate
 use Rattle.btr_read.specs.Layout.{Layout}
 use Rattle.btr_read.specs.declared.want.Want.{Want}
 use Rattle.btr_tour.specs.Program.{TourProg, by_block, by_node, children, items_until_fault, tour_from, tour_prog}
-use Rattle.btr_tour.specs.Tour.{Mark, Block, Child, Item, Left, block_tour, child_spots, child_tour, first_key, meets_keys, node_tour, place_of, tour_at}
+use Rattle.btr_tour.specs.Tour.{Mark, Block, Child, Item, Left, block_tour, child_pointers, child_tour, first_key, meets_keys, node_tour, place_of, tour_at}
 use Rattle.btr_tour.specs.Visits.{Visits}
 use Rattle.btr_walk.specs.Folding.{FoldCause}
 use Rattle.btr_walk.specs.Folds.{Next, Go, End, Broken, folded_over, next_prog}
-use Rattle.btr_walk.specs.Le.{TreeItem, root_spot, want_of}
+use Rattle.btr_walk.specs.Le.{TreeItem, root_pointer, want_of}
 use Rattle.btr_walk.specs.Range.{RangeProg, items_within, range}
 use Rattle.btr_walk.specs.Reading.{Map, UnreadBlock, halt_of}
-use Rattle.btr_walk.specs.Spot.{judged}
+use Rattle.btr_walk.specs.BlockPointer.{judged}
 use Rattle.btr_walk.specs.declared.fault.TreeFault.{TreeFault}
 use Rattle.btr_walk.specs.declared.fault.TreeFault.TheVariants.{Lost, Unread, Unmapped, Crosses, Malformed}
 use Rattle.btr_walk.specs.declared.folder.FoldFault.{FoldFault}
 use Rattle.btr_walk.specs.declared.folder.FoldFault.TheVariants.{Tree as tree}
 use Rattle.btr_walk.specs.declared.place.RootPlace.{RootPlace}
-use Rattle.btr_walk.specs.declared.spot.Spot.{Spot}
+use Rattle.btr_walk.specs.declared.block_pointer.BlockPointer.{BlockPointer}
 use Rattle.btr_check.proofs.Runs.{cause_unread, fault_more}
 use Rattle.btr_check.specs.Running.{FaultUnread, IsAnyUnread}
 use Rattle.btr_check.specs.Wanted.{subtree_wants, tree_wants, want_at, wants_met}
@@ -39,13 +39,16 @@ use Rattle.btr_check.specs.Wanted.{subtree_wants, tree_wants, want_at, wants_met
 pub first_in : {X : Type 0} (x : X) (xs : List X) → Contains (x ∷ xs) x
 first_in x xs = (0, omega arith, refl)
 
+-- what is in a list is in it with one more in front
 pub later_in : {X : Type 0} (x : X) (xs : List X) (y : X) → Contains xs y → Contains (x ∷ xs) y
 later_in x xs y h = Contains-append_right (x ∷ []) xs y h
 
+-- what is in a list is the first, or one of the others
 pub first_or_later : {X : Type 0} (x : X) (xs : List X) (y : X) → Contains (x ∷ xs) y → (x ≡ y) ⊎ Contains xs y
 first_or_later x xs y (zero, lt, at) = inl at
 first_or_later x xs y (suc k, lt, at) = inr (k, omega (arith, lt), at)
 
+-- nothing is in an empty list
 pub none_in : {X : Type 0} (y : X) (P : Type 0) → Contains [] y → P
 none_in y P h = absurd (omega (arith, h.1))
 
@@ -62,6 +65,7 @@ wanted_by Is u r done f =
     subst (Names Is u) (sym (wants_of-append f.before f.behind) ∙ sym (ap wants_of f.place))
     (names_left Is u (wants_of f.before) (wants_of f.behind) f.holds)
 
+-- where a run's fault is a block that could not be read, one of its wants is that
 pub fault_wanted : {S A : Type 0} (Is : UnreadBlock → Want → Type 0) (r : Run Want fate.Fault S A) (done : List S) (f : TreeFault)
     → Follows Is no_part [] r done (Err (halt_of f)) → FaultUnread (λ u. Names Is u (wants_of r.marks)) f
 fault_wanted Is r done (Lost addr) h = tt
@@ -72,6 +76,7 @@ fault_wanted Is r done (Malformed addr) h = tt
 
 -- ---- what tours want
 
+-- what two tours want, one behind the other, is what each of them wants
 pub wants_met-append : (xs ys : List Mark) → wants_met (xs ++ ys) ≡ wants_met xs ++ wants_met ys
 wants_met-append [] ys = refl
 wants_met-append (Block place block ∷ xs) ys = ap (λ l. want_at place ∷ l) (wants_met-append xs ys)
@@ -80,6 +85,7 @@ wants_met-append (Item item ∷ xs) ys = wants_met-append xs ys
 wants_met-append (Left fault ∷ xs) ys = wants_met-append xs ys
 
 module _ (Is : UnreadBlock → Want → Type 0) (u : UnreadBlock) (B : Map) where
+  -- what the program of a tour wants
   abbrev wanted : TourProg → List Want
   wanted p = wants_of (tried B p).marks
 
@@ -87,59 +93,67 @@ module _ (Is : UnreadBlock → Want → Type 0) (u : UnreadBlock) (B : Map) wher
   abbrev Either : List Want → TourProg → Type 0
   Either ws rest = Names Is u ws ⊎ Names Is u (wanted rest)
 
+  -- steps before the rest want nothing themselves
   items_want : (ms : List Mark) (rest : TourProg) → Names Is u (wanted (act_all ms rest)) → Names Is u (wanted rest)
   items_want [] rest h = h
   items_want (m ∷ ms) rest h = items_want ms rest h
 
-  module _ (tour : Spot → TourProg → TourProg) (marks : Spot → List Mark) (level : ℕ)
-      (met : (spot : Spot) (rest : TourProg) → Names Is u (wanted (tour spot rest)) → Either (want_of (level - 1) spot ∷ wants_met (marks spot)) rest) where
-    children_want : (addr : ℕ) (spots : List Spot) (rest : TourProg) → Names Is u (wanted (children tour addr (level - 1) spots rest))
-        → Either (wants_met (flat_map (child_tour first_key last_key marks addr (level - 1)) spots)) rest
+  module _ (tour : BlockPointer → TourProg → TourProg) (marks : BlockPointer → List Mark) (level : ℕ)
+      (met : (pointer : BlockPointer) (rest : TourProg) → Names Is u (wanted (tour pointer rest))
+      → Either (want_of (level - 1) pointer ∷ wants_met (marks pointer)) rest) where
+    -- a block that could not be read in the tours of children is wanted by these, or by the rest
+    children_want : (addr : ℕ) (block_pointers : List BlockPointer) (rest : TourProg) → Names Is u (wanted (children tour addr (level - 1) block_pointers rest))
+        → Either (wants_met (flat_map (child_tour first_key last_key marks addr (level - 1)) block_pointers)) rest
     children_want addr [] rest h = inr h
-    children_want addr (spot ∷ spots) rest h =
-        let here : List Want = want_of (level - 1) spot ∷ wants_met (marks spot) in
-        let later : List Mark = flat_map (child_tour first_key last_key marks addr (level - 1)) spots in
-        let all : wants_met (Child addr (place_of (level - 1) spot) ∷ marks spot ++ later) ≡ here ++ wants_met later =
-        ap (λ l. want_of (level - 1) spot ∷ l) (wants_met-append (marks spot) later) in
+    children_want addr (pointer ∷ block_pointers) rest h =
+        let here : List Want = want_of (level - 1) pointer ∷ wants_met (marks pointer) in
+        let later : List Mark = flat_map (child_tour first_key last_key marks addr (level - 1)) block_pointers in
+        let all : wants_met (Child addr (place_of (level - 1) pointer) ∷ marks pointer ++ later) ≡ here ++ wants_met later =
+        ap (λ l. want_of (level - 1) pointer ∷ l) (wants_met-append (marks pointer) later) in
         ⊎_elim (λ one. inl (subst (Names Is u) (sym all) (names_left Is u here (wants_met later) one)))
         (λ more. ⊎_elim (λ one. inl (subst (Names Is u) (sym all) (names_right Is u here (wants_met later) one))) (λ r. inr r)
-        (children_want addr spots rest more))
-        (met spot (children tour addr (level - 1) spots rest) h)
+        (children_want addr block_pointers rest more))
+        (met pointer (children tour addr (level - 1) block_pointers rest) h)
 
-    node_wants : (spot : Spot) (block : List ℕ) (rest : TourProg) (node : Option Node)
-        → Names Is u (wanted (by_node first_key last_key tour level spot block rest node))
-        → Either (wants_met (node_tour first_key last_key marks level spot block node)) rest
-    node_wants spot block rest None h = inr h
-    node_wants spot block rest (Some (Leaf items)) h = inr (items_want (map Item (items_within first_key last_key spot.addr items)) rest h)
-    node_wants spot block rest (Some (Inner ps)) h = ⊎_elim (λ one. inl (inr one)) (λ r. inr r)
-        (children_want spot.addr (filter (meets_keys first_key last_key) (child_spots ps spot.up)) rest h)
+    -- a block that could not be read behind a node's block is wanted below the node, or by the rest
+    node_wants : (pointer : BlockPointer) (block : List ℕ) (rest : TourProg) (node : Option Node)
+        → Names Is u (wanted (by_node first_key last_key tour level pointer block rest node))
+        → Either (wants_met (node_tour first_key last_key marks level pointer block node)) rest
+    node_wants pointer block rest None h = inr h
+    node_wants pointer block rest (Some (Leaf items)) h = inr (items_want (map Item (items_within first_key last_key pointer.addr items)) rest h)
+    node_wants pointer block rest (Some (Inner ps)) h = ⊎_elim (λ one. inl (inr one)) (λ r. inr r)
+        (children_want pointer.addr (filter (meets_keys first_key last_key) (child_pointers ps pointer.up)) rest h)
 
-    block_wants : (spot : Spot) (rest : TourProg) (came : Result (List ℕ) fate.Fault)
-        → Names Is u (wanted (by_block first_key last_key tour level spot rest came))
-        → Either (wants_met (block_tour first_key last_key marks level spot came)) rest
-    block_wants spot rest (Ok block) h = node_wants spot block rest (judged level spot block) h
-    block_wants spot rest (Err fault) h = inr h
+    -- whatever a want came to, a block that could not be read behind it is wanted below it, or by the rest
+    block_wants : (pointer : BlockPointer) (rest : TourProg) (came : Result (List ℕ) fate.Fault)
+        → Names Is u (wanted (by_block first_key last_key tour level pointer rest came))
+        → Either (wants_met (block_tour first_key last_key marks level pointer came)) rest
+    block_wants pointer rest (Ok block) h = node_wants pointer block rest (judged level pointer block) h
+    block_wants pointer rest (Err fault) h = inr h
 
+  -- with one want more in front it is that one, one of the others, or one of the rest
   here_or : (w : Want) (ws : List Want) (rest : TourProg) → Is u w ⊎ Either ws rest → Either (w ∷ ws) rest
   here_or w ws rest (inl is) = inl (inl is)
   here_or w ws rest (inr (inl one)) = inl (inr one)
   here_or w ws rest (inr (inr more)) = inr more
 
-  subtree_want : (level : ℕ) (spot : Spot) (rest : TourProg) → Names Is u (wanted (tour_from first_key last_key level spot rest))
-      → Either (subtree_wants B level spot) rest
-  subtree_want zero spot rest h = here_or (want_of 0 spot) _ rest
-      (⊎_elim (λ is. inl is) (λ more. inr (block_wants (λ child more. more) (λ child. []) 0 (λ child more h. inr h) spot rest (B (want_of 0 spot)) more)) h)
-  subtree_want (suc n) spot rest h =
+  -- a block that could not be read in a tour from a pointer downwards is of the subtree, or the rest wants it
+  subtree_want : (level : ℕ) (pointer : BlockPointer) (rest : TourProg) → Names Is u (wanted (tour_from first_key last_key level pointer rest))
+      → Either (subtree_wants B level pointer) rest
+  subtree_want zero pointer rest h = here_or (want_of 0 pointer) _ rest
+      (⊎_elim (λ is. inl is) (λ more. inr (block_wants (λ child more. more) (λ child. []) 0 (λ child more h. inr h) pointer rest (B (want_of 0 pointer))
+      more)) h)
+  subtree_want (suc n) pointer rest h =
       let down : n ≡ suc n - 1 = omega arith in
-      here_or (want_of (suc n) spot) _ rest
+      here_or (want_of (suc n) pointer) _ rest
       (⊎_elim (λ is. inl is) (λ more. inr (block_wants (tour_from first_key last_key n) (tour_at first_key last_key B n) (suc n)
       (λ child more h. subst (λ k. Either (want_of k child ∷ wants_met (tour_at first_key last_key B n child)) more) down (subtree_want n child more h))
-      spot rest (B (want_of (suc n) spot)) more)) h)
+      pointer rest (B (want_of (suc n) pointer)) more)) h)
 
   -- the tour of a tree wants its blocks
   pub tree_want : (root : RootPlace) → Names Is u (wanted (tour_prog first_key last_key root)) → (want : Want) × Contains (tree_wants B root) want × Is u want
   tree_want root h = named_in Is u (tree_wants B root)
-      (⊎_elim (λ one. one) (λ none. absurd none) (subtree_want root.level (root_spot root) (Done tt) h))
+      (⊎_elim (λ one. one) (λ none. absurd none) (subtree_want root.level (root_pointer root) (Done tt) h))
 
   -- a range wants what the tour does that stops at its first fault
   range_want : (p : TourProg) → Names Is u (wants_of (exec B (items_until_fault p)).marks) → Names Is u (wanted p)
@@ -158,6 +172,7 @@ module _ (Is : UnreadBlock → Want → Type 0) (u : UnreadBlock) (B : Map) wher
 
   -- what is made of the items of a range wants no more
   module _ {St R : Type 0} (step : St → TreeItem → Next St R) (answer : St → R) where
+    -- a block that could not be read as items are folded is a want of their range
     fold_wants : (p : RangeProg) (state : St) → Names Is u (wants_of (exec B (folded_over step answer state p)).marks) → Names Is u (wants_of (exec B p).marks)
     fold_wants (Return end) state h = h
     fold_wants (Stop fault) state h = h
@@ -187,6 +202,7 @@ visit_unread step Is B root old new r f is h =
     fault_more (λ u. Names Is u (wants_of tour.marks)) (λ u. (want : Want) × Contains (tree_wants B root) want × Is u want)
     (λ u named. tree_want Is u B root named) f (fault_wanted Is tour v.done f v.refused)
 
+-- a block that could not be read in a fold of a tree is some want, with its whole cause
 pub fold_unread : {E : Type 0} (layout : Layout) (old new : Seen) (r : FoldFault E) (f : TreeFault) → r ≡ tree f
     → FoldCause {A = Unit {0}} layout old new (Err r) → FaultUnread (IsAnyUnread layout old new) f
 fold_unread layout old new r f is h = cause_unread layout old new f (subst (λ x. FoldCause {A = Unit {0}} layout old new (Err x)) is h)

@@ -14,19 +14,23 @@ use Rattle.btr_check.specs.Trees.{chunk_tree, root_tree, trees}
 use Rattle.btr_check.specs.Walking.{WalkSeen, IsWalkOf, is_nothing}
 use Rattle.btr_check.specs.Walks.{tree_broken, tree_overlapping, walk_findings}
 
+-- where nothing was found there are no findings
 pub none_found : (found : List Finding) → is_nothing found ≡ true → found ≡ []
 none_found [] is = refl
 none_found (finding ∷ found) is = cc
 
+-- where the walk found something, that is all
 only_walk : (found rules : List Finding) → is_nothing found ≡ false → or_rules found rules ≡ found
 only_walk [] rules is = cc
 only_walk (finding ∷ found) rules is = refl
 
 module _ (fs : Filesystem) (listed_trees all : List TreeRoot) (lists : Lists listed_trees fs)
     (are : all ≡ chunk_tree fs.sup ∷ root_tree fs.sup ∷ listed_trees) where
+  -- these are all trees of the filesystem
   pub all_are : all ≡ trees fs.sup fs.blocks
   all_are = are ∙ ap (λ l. chunk_tree fs.sup ∷ root_tree fs.sup ∷ l) lists
 
+  -- what the walk found is what is wrong with the trees themselves
   walk_is : (walk : WalkSeen) → IsWalkOf fs all walk → walk.broken ++ walk.overlapping ≡ walk_findings fs
   walk_is walk walked = (λ i. walked.broken i ++ walked.overlapping i) ∙ ap (λ l. flat_map (tree_broken fs) l ++ flat_map (tree_overlapping fs) l) all_are
 

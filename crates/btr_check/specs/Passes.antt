@@ -52,7 +52,7 @@ abbrev pub ListExtents : Filesystem → Vec Extent Global → Type 0
 ListExtents fs all = AreExtents all.items fs
 
 -- what is known where uses are counted: all trees, the blocks that they reach, and what is kept of the extent tree
-pub record IsCounted (all_trees : List TreeRoot) (places : List RootPlace) (begun : Begun) (fs : Filesystem) : Type 0 where
+pub record KnowsUses (all_trees : List TreeRoot) (places : List RootPlace) (begun : Begun) (fs : Filesystem) : Type 0 where
   pub all : AreAll all_trees fs
   pub reached : ArePlaces fs all_trees places
   pub kept : IsBegun fs begun

@@ -9,11 +9,11 @@ use Rattle.std.specs.Option.{option_map}
 use Rattle.btr_base.specs.Key.{key_le, last_key}
 use Rattle.btr_node.specs.Block.{Item, items, pointers}
 use Rattle.btr_tour.specs.Tour as tour
-use Rattle.btr_tour.specs.Tour.{Mark, Block, Reached, first_key, tour_at, child_spots, child_tour}
+use Rattle.btr_tour.specs.Tour.{Mark, Block, Reached, first_key, tour_at, child_pointers, child_tour}
 use Rattle.btr_tour.specs.Tour.{meets_keys, blocks_met}
 use Rattle.btr_volume.specs.declared.stop.Stop.{Stop}
 use Rattle.btr_volume.specs.declared.stop.Stop.TheVariants.{Memory}
-use Rattle.btr_walk.specs.declared.spot.Spot.{Spot}
+use Rattle.btr_walk.specs.declared.block_pointer.BlockPointer.{BlockPointer}
 use Rattle.btr_walk.specs.Le.{TreeItem}
 use Rattle.btr_walk.specs.Range.{items_within}
 use Rattle.btr_check.specs.declared.opening.Opened.{Opened}
@@ -47,28 +47,28 @@ edges_of (range ∷ ranges) = joined (edge_of (Some range)) (edges_of ranges)
 abbrev pub Known : Type 0
 Known = List (BlockId × Subtree)
 
--- where a block of a level at a spot stands
-abbrev pub place_at : ℕ → Spot → BlockId
-place_at level spot = record { addr = spot.addr; generation = spot.generation; level = level }
+-- where a block of a level at a pointer stands
+abbrev pub place_at : ℕ → BlockPointer → BlockId
+place_at level pointer = record { addr = pointer.addr; generation = pointer.generation; level = level }
 
--- what is kept of the subtree at a spot with these edges: its bounds and the edges
-abbrev pub subtree_with : Spot → Option Edges → Subtree
-subtree_with spot edges = record { first = spot.first; up = spot.up; edges = edges }
+-- what is kept of the subtree at a pointer with these edges: its bounds and the edges
+abbrev pub subtree_with : BlockPointer → Option Edges → Subtree
+subtree_with pointer edges = record { first = pointer.first; up = pointer.up; edges = edges }
 
--- what is kept, with the subtree of a level at a spot in place of one that was kept there
-abbrev pub with_subtree : Known → ℕ → Spot → Option Edges → Known
-with_subtree known level spot edges =
-    insert_entry place_cmp known (place_at level spot) (subtree_with spot edges)
+-- what is kept, with the subtree of a level at a pointer in place of one that was kept there
+abbrev pub with_subtree : Known → ℕ → BlockPointer → Option Edges → Known
+with_subtree known level pointer edges =
+    insert_entry place_cmp known (place_at level pointer) (subtree_with pointer edges)
 
 -- what is kept, with a subtree more if that is asked
-abbrev pub kept_if : Bool → Known → ℕ → Spot → Option Edges → Known
-kept_if true known level spot edges = with_subtree known level spot edges
-kept_if false known level spot edges = known
+abbrev pub kept_if : Bool → Known → ℕ → BlockPointer → Option Edges → Known
+kept_if true known level pointer edges = with_subtree known level pointer edges
+kept_if false known level pointer edges = known
 
--- the subtree of a level at a spot is kept, with its bounds and these edges
-abbrev pub IsKept : Known → ℕ → Spot → Option Edges → Type 0
-IsKept known level spot edges =
-    lookup (is_at (place_cmp (place_at level spot))) known ≡ Some (subtree_with spot edges)
+-- the subtree of a level at a pointer is kept, with its bounds and these edges
+abbrev pub IsSubtreeKept : Known → ℕ → BlockPointer → Option Edges → Type 0
+IsSubtreeKept known level pointer edges =
+    lookup (is_at (place_cmp (place_at level pointer))) known ≡ Some (subtree_with pointer edges)
 
 -- a walk behind a subtree that has nothing wrong and whose blocks were met: only the ranges at its
 -- edges count
@@ -88,12 +88,12 @@ Passes old edges new (Ok answer) = (answer ≡ edges) × (new ≡ passed old edg
 Passes old edges new (Err stop) = stop ≡ Memory
 
 -- a subtree was kept, where that is asked and nothing was found, or there was no memory
-abbrev pub Keeps : Bool → ℕ → Spot → Option Edges → WalkSeen → Known → Known
+abbrev pub Keeps : Bool → ℕ → BlockPointer → Option Edges → WalkSeen → Known → Known
     → Result (Option Edges) Stop → Type 0
-Keeps asked level spot edges seen old new (Ok answer) =
+Keeps asked level pointer edges seen old new (Ok answer) =
     (answer ≡ edges)
-    × (new ≡ kept_if (asked && is_nothing (seen.broken ++ seen.overlapping)) old level spot edges)
-Keeps asked level spot edges seen old new (Err stop) = stop ≡ Memory
+    × (new ≡ kept_if (asked && is_nothing (seen.broken ++ seen.overlapping)) old level pointer edges)
+Keeps asked level pointer edges seen old new (Err stop) = stop ≡ Memory
 
 -- a block was met
 abbrev pub WasMet : WalkSeen → Reached → Type 0
@@ -107,20 +107,20 @@ pub record CanPass (seen : WalkSeen) (marks : List Mark) (edges : Option Edges) 
   pub met : AllByRecursion (WasMet seen) (blocks_met marks)
 
 module _ (fs : Filesystem) where
-  -- what a tour meets from the block of a level at a spot downwards
-  abbrev pub subtree_marks : ℕ → Spot → List Mark
-  subtree_marks level spot = tour_at first_key last_key fs.blocks level spot
+  -- what a tour meets from the block of a level at a pointer downwards
+  abbrev pub subtree_marks : ℕ → BlockPointer → List Mark
+  subtree_marks level pointer = tour_at first_key last_key fs.blocks level pointer
 
   -- what a tour meets from children of a level downwards, each behind its pointer in the node at an address
-  abbrev pub children_marks : ℕ → ℕ → List Spot → List Mark
-  children_marks addr level spots =
-      flat_map (child_tour first_key last_key (subtree_marks level) addr level) spots
+  abbrev pub children_marks : ℕ → ℕ → List BlockPointer → List Mark
+  children_marks addr level block_pointers =
+      flat_map (child_tour first_key last_key (subtree_marks level) addr level) block_pointers
 
   -- each subtree that is kept can be passed
   pub record Knows (seen : WalkSeen) (known : Known) : Type 0 where
     pub kind : seen.kind ≡ kind_of_sums fs
-    pub all : (level : ℕ) (spot : Spot) (edges : Option Edges) → IsKept known level spot edges
-        → CanPass seen (subtree_marks level spot) edges
+    pub all : (level : ℕ) (pointer : BlockPointer) (edges : Option Edges) → IsSubtreeKept known level pointer edges
+        → CanPass seen (subtree_marks level pointer) edges
 
   -- these marks were walked, and these are their edges
   pub record Walked (marks : List Mark) (old new : WalkSeen) (known : Known)
@@ -137,14 +137,14 @@ module _ (fs : Filesystem) where
 
   -- A block was opened: it was left out or is a leaf, and all of it was walked; or it is a node,
   -- and its children are to come.
-  abbrev pub Opens : ℕ → Spot → WalkSeen → WalkSeen → Opened → Type 0
-  Opens level spot old new (Whole edges) =
-      (new ≡ fold walk_step old (subtree_marks level spot))
-      × (edges ≡ edges_of (ranges_met (subtree_marks level spot)))
-  Opens level spot old new (Children spots) =
-      (block : List ℕ) × (new ≡ walk_step old (Block (tour.place_of level spot) block))
-      × (subtree_marks level spot
-      ≡ Block (tour.place_of level spot) block ∷ children_marks spot.addr (level - 1) spots.items)
+  abbrev pub Opens : ℕ → BlockPointer → WalkSeen → WalkSeen → Opened → Type 0
+  Opens level pointer old new (Whole edges) =
+      (new ≡ fold walk_step old (subtree_marks level pointer))
+      × (edges ≡ edges_of (ranges_met (subtree_marks level pointer)))
+  Opens level pointer old new (Children block_pointers) =
+      (block : List ℕ) × (new ≡ walk_step old (Block (tour.place_of level pointer) block))
+      × (subtree_marks level pointer
+      ≡ Block (tour.place_of level pointer) block ∷ children_marks pointer.addr (level - 1) block_pointers.items)
 
 -- a list with one more, if that passes a test
 abbrev pub with_if : {X : Type 0} → (X → Bool) → List X → X → List X
@@ -164,16 +164,16 @@ WalksItems addr items old new edges =
     × (edges ≡ edges_of (ranges_met (map tour.Item (items_within first_key last_key addr items))))
 
 -- a good block was opened
-abbrev pub OpensGood : ℕ → Spot → List ℕ → WalkSeen → WalkSeen → Opened → Type 0
-OpensGood level spot block old new (Whole edges) =
+abbrev pub OpensGood : ℕ → BlockPointer → List ℕ → WalkSeen → WalkSeen → Opened → Type 0
+OpensGood level pointer block old new (Whole edges) =
     (level ≡ 0)
-    × WalksItems spot.addr (items block) (walk_step old (Block (tour.place_of level spot) block)) new
+    × WalksItems pointer.addr (items block) (walk_step old (Block (tour.place_of level pointer) block)) new
     edges
-OpensGood level spot block old new (Children spots) =
-    (new ≡ walk_step old (Block (tour.place_of level spot) block))
-    × (spots.items ≡ filter (meets_keys first_key last_key) (child_spots (pointers block) spot.up))
+OpensGood level pointer block old new (Children block_pointers) =
+    (new ≡ walk_step old (Block (tour.place_of level pointer) block))
+    × (block_pointers.items ≡ filter (meets_keys first_key last_key) (child_pointers (pointers block) pointer.up))
 
 -- children are below a node alone
 abbrev pub IsAbove : ℕ → Opened → Type 0
 IsAbove level (Whole edges) = ⊤
-IsAbove level (Children spots) = level ≡ 0 → ⊥
+IsAbove level (Children block_pointers) = level ≡ 0 → ⊥

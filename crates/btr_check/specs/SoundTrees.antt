@@ -13,7 +13,7 @@ use Rattle.btr_findings.specs.Findings.{FoundSet}
 use Rattle.btr_tour.specs.Tour.{items_met}
 use Rattle.btr_volume.specs.declared.root.TreeRoot.{TreeRoot}
 use Rattle.btr_walk.specs.Le.{TreeItem}
-use Rattle.btr_walk.specs.declared.spot.Spot.{Spot}
+use Rattle.btr_walk.specs.declared.block_pointer.BlockPointer.{BlockPointer}
 use Rattle.btr_check.specs.Data.{sum_runs}
 use Rattle.btr_check.specs.Families.{AreSumRanges}
 use Rattle.btr_check.specs.FileTrees.{file_tree_findings, names_of, Treats}
@@ -26,22 +26,22 @@ use Rattle.btr_check.specs.declared.sound_tree.SoundTree.{SoundTree}
 
 module _ (fs : Filesystem) where
   -- the items that stand below some blocks of a level
-  abbrev pub items_below : ℕ → List Spot → List TreeItem
-  items_below level spots = flat_map (λ (spot : Spot). items_met (subtree_marks fs level spot)) spots
+  abbrev pub items_below : ℕ → List BlockPointer → List TreeItem
+  items_below level block_pointers = flat_map (λ (pointer : BlockPointer). items_met (subtree_marks fs level pointer)) block_pointers
 
   -- where there are any, these are the blocks below the root of a tree: its items are theirs
-  abbrev pub AreBelow : TreeRoot → List Spot → Type 0
+  abbrev pub AreBelow : TreeRoot → List BlockPointer → Type 0
   AreBelow tree [] = ⊤
-  AreBelow tree (spot ∷ spots) = items_in fs.blocks tree ≡ items_below (tree.place.level - 1) (spot ∷ spots)
+  AreBelow tree (pointer ∷ block_pointers) = items_in fs.blocks tree ≡ items_below (tree.place.level - 1) (pointer ∷ block_pointers)
 
   -- nothing is wrong with a tree of files, and these are its entries that lead to subvolumes
-  pub record IsSound (tree : TreeRoot) (names : Unpaired) : Type 0 where
+  pub record IsSoundTree (tree : TreeRoot) (names : Unpaired) : Type 0 where
     pub nothing : file_tree_findings fs.blocks fs.chunks (sum_runs fs) tree ≡ []
     pub entries : names.subvolumes ≡ filter leads_to_root (names_of fs.blocks tree).indexed
 
   -- a tree is sound, its names add up by counts, these are the blocks below its root, and where it is said nothing of it is an orphan's
   pub record IsKeptOf (one : SoundTree) : Type 0 where
-    pub sound : IsSound one.rooted.tree one.names
+    pub sound : IsSoundTree one.rooted.tree one.names
     pub settled : AreSettled (names_of fs.blocks one.rooted.tree)
     pub below : AreBelow one.rooted.tree one.rooted.children.items
     pub plain : one.is_plain ≡ true → list_all is_plain (items_in fs.blocks one.rooted.tree) ≡ true

@@ -1,7 +1,7 @@
 -- Extents and what uses them.
 use Rattle.std.specs.Prelude.{List, [], ◌++◌, map, flat_map}
 use Rattle.btr_findings.specs.declared.finding.Finding.{Finding}
-use Rattle.btr_refs.specs.Extents.{Kept, stored_in, stored_of}
+use Rattle.btr_refs.specs.Extents.{KeptExtents, stored_in, stored_of}
 use Rattle.btr_refs.specs.Counts.{RefCounts, counted_all}
 use Rattle.btr_refs.specs.declared.counted.Counted.{Counted}
 use Rattle.btr_refs.specs.Forward.{Use, extent_findings, met}
@@ -22,7 +22,7 @@ abbrev pub counted_refs : Filesystem → RefCounts
 counted_refs fs = counts_of (map met (all_uses fs))
 
 -- what the extent tree stores
-abbrev pub stored : Filesystem → Kept
+abbrev pub stored : Filesystem → KeptExtents
 stored fs = stored_of fs.sup.nodesize (tree_items fs 2)
 
 -- how often each reference is stored in the extent tree

@@ -42,8 +42,8 @@ abbrev pub nothing_seen : SumKind → RootSeen
 nothing_seen kind = record { kind = kind; wrong = None; trees = [] }
 
 -- how it ends: with the trees, or with what is wrong first
-abbrev pub EndsWith : RootSeen → Result (Vec TreeRoot Global) BlockFault → Type 0
-EndsWith seen result = MatchResult result (λ trees. (seen.wrong ≡ None) × (trees.items ≡ seen.trees)) (λ fault. seen.wrong ≡ Some fault)
+abbrev pub FindsTrees : RootSeen → Result (Vec TreeRoot Global) BlockFault → Type 0
+FindsTrees seen result = MatchResult result (λ trees. (seen.wrong ≡ None) × (trees.items ≡ seen.trees)) (λ fault. seen.wrong ≡ Some fault)
 
 -- what is kept of the root tree after one more mark
 abbrev pub root_step : RootSeen → Mark → RootSeen

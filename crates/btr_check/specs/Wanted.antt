@@ -11,10 +11,10 @@ use Rattle.btr_read.specs.declared.want.Want.TheVariants.{Tree}
 use Rattle.btr_base.specs.Key.{last_key}
 use Rattle.btr_tour.specs.Tour.{Mark, Block, Child, Item, Left, first_key, tour_at}
 use Rattle.btr_volume.specs.declared.root.TreeRoot.{TreeRoot}
-use Rattle.btr_walk.specs.Le.{root_spot, want_of}
+use Rattle.btr_walk.specs.Le.{root_pointer, want_of}
 use Rattle.btr_walk.specs.Reading.{Map}
 use Rattle.btr_walk.specs.declared.place.RootPlace.{RootPlace}
-use Rattle.btr_walk.specs.declared.spot.Spot.{Spot}
+use Rattle.btr_walk.specs.declared.block_pointer.BlockPointer.{BlockPointer}
 use Rattle.btr_check.specs.Data.{sector_bytes, sum_runs}
 use Rattle.btr_check.specs.Filesystem.{Filesystem, kind_of_sums}
 use Rattle.btr_check.specs.Trees.{tree_of, trees}
@@ -31,14 +31,14 @@ wants_met (Child addr place ∷ more) = want_at place ∷ wants_met more
 wants_met (Item item ∷ more) = wants_met more
 wants_met (Left fault ∷ more) = wants_met more
 
--- the block of a level at a spot, and all blocks that pointers name below it
-abbrev pub subtree_wants : Map → ℕ → Spot → List Want
-subtree_wants B level spot =
-    want_of level spot ∷ wants_met (tour_at first_key last_key B level spot)
+-- the block of a level at a pointer, and all blocks that pointers name below it
+abbrev pub subtree_wants : Map → ℕ → BlockPointer → List Want
+subtree_wants B level pointer =
+    want_of level pointer ∷ wants_met (tour_at first_key last_key B level pointer)
 
 -- the blocks of a tree: its root, and all that pointers name below it
 abbrev pub tree_wants : Map → RootPlace → List Want
-tree_wants B root = subtree_wants B root.level (root_spot root)
+tree_wants B root = subtree_wants B root.level (root_pointer root)
 
 -- a want is just this one
 abbrev pub Only : Want → Filesystem → Want → Type 0
@@ -48,13 +48,13 @@ Only one fs want = want ≡ one
 abbrev pub OfPlaces : List RootPlace → Filesystem → Want → Type 0
 OfPlaces places fs want = (place : RootPlace) × Contains places place × (want ≡ want_at place)
 
--- a want is the block of a level at a spot, or one below it
-abbrev pub OfSubtree : ℕ → Spot → Filesystem → Want → Type 0
-OfSubtree level spot fs want = Contains (subtree_wants fs.blocks level spot) want
+-- a want is the block of a level at a pointer, or one below it
+abbrev pub OfSubtree : ℕ → BlockPointer → Filesystem → Want → Type 0
+OfSubtree level pointer fs want = Contains (subtree_wants fs.blocks level pointer) want
 
--- a want is the block of a level at one of some spots, or one below it
-abbrev pub OfSubtrees : ℕ → List Spot → Filesystem → Want → Type 0
-OfSubtrees level spots fs want = (spot : Spot) × Contains spots spot × OfSubtree level spot fs want
+-- a want is the block of a level at one of some pointers, or one below it
+abbrev pub OfSubtrees : ℕ → List BlockPointer → Filesystem → Want → Type 0
+OfSubtrees level block_pointers fs want = (pointer : BlockPointer) × Contains block_pointers pointer × OfSubtree level pointer fs want
 
 -- a want is a block of the tree that has its root at a place
 abbrev pub OfTree : RootPlace → Filesystem → Want → Type 0

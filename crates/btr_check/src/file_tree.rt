@@ -1,6 +1,6 @@
 ghost use Rattle.btr_check.specs.FileTrees.{mark_plain};
 ghost use Rattle.btr_tour.specs.Tour.{Mark};
-ghost use Rattle.btr_tour.specs.Visits.{Shows};
+ghost use Rattle.btr_tour.specs.Visits.{ShowsMark};
 ghost use Rattle.std.specs.Prelude.{◌≡◌};
 
 use btr_base::Memory;
@@ -38,7 +38,7 @@ impl FileTree {
 
 // Whether what was met is no orphan item.
 fn is_plain(met: &Met<'_>) -> bool
-    ensures { (mark : Mark) → Shows met.now mark → result ≡ mark_plain mark }
+    ensures { (mark : Mark) → ShowsMark met.now mark → result ≡ mark_plain mark }
 {
     match met {
         Met::Item(found) => found.key.kind != item::ORPHAN_ITEM,

@@ -3,7 +3,7 @@ ghost use Rattle.std.specs.Prelude.{◌≡◌, ◌≤◌, ◌&&◌, filter, leng
 ghost use Rattle.btr_base.specs.Key.{key_le, last_key};
 ghost use Rattle.btr_node.specs.Block.{items, pointers, is_leaf, is_inner};
 ghost use Rattle.btr_tour.specs.Tour as tour;
-ghost use Rattle.btr_tour.specs.Tour.{first_key, child_spots, meets_keys};
+ghost use Rattle.btr_tour.specs.Tour.{first_key, child_pointers, meets_keys};
 ghost use Rattle.btr_check.specs.Passing.{IsAbove, Opens, OpensGood, WalksItem, WalksItems};
 ghost use Rattle.btr_check.specs.Passing.{with_if};
 ghost use Rattle.btr_walk.specs.Le.{want_of};
@@ -18,7 +18,7 @@ use btr_base::{FIRST_KEY, Key, LAST_KEY, Memory};
 use btr_node::{Inner, Leaf};
 use btr_rack::Rack;
 use btr_volume::{Stop, Volume};
-use btr_walk::{Found, RootPlace, Spot, child_at, found_at, read_block};
+use btr_walk::{BlockPointer, Found, RootPlace, child_at, found_at, read_block};
 use std::alloc::Global;
 
 /// What a block came to: all of it was walked, with these ranges of files at its edges, or its
@@ -26,18 +26,18 @@ use std::alloc::Global;
 #[derive(Drop)]
 pub(crate) enum Opened {
     Whole(Option<Edges>),
-    Children(Vec<Spot>),
+    Children(Vec<BlockPointer>),
 }
 
-// Whether a block at a spot may have keys.
-fn meets_keys(spot: &Spot) -> bool
-    ensures { result ≡ meets_keys first_key last_key spot.now }
+// Whether a block at a pointer may have keys.
+fn meets_keys(pointer: &BlockPointer) -> bool
+    ensures { result ≡ meets_keys first_key last_key pointer.now }
 {
-    let ends_behind = match spot.up {
+    let ends_behind = match pointer.up {
         None => true,
         Some(up) => FIRST_KEY.is_before(up),
     };
-    let begins_by = match spot.first {
+    let begins_by = match pointer.first {
         None => true,
         Some(first) => !LAST_KEY.is_before(first),
     };
@@ -45,32 +45,32 @@ fn meets_keys(spot: &Spot) -> bool
 }
 
 // Puts a child behind others, if it may have keys.
-fn push_child(spots: &mut Vec<Spot>, spot: Spot) -> Result<(), Memory>
+fn push_child(block_pointers: &mut Vec<BlockPointer>, pointer: BlockPointer) -> Result<(), Memory>
     ensures { OnOk result
-        (spots.new.items ≡ with_if (meets_keys first_key last_key) spots.old.items spot) }
+        (block_pointers.new.items ≡ with_if (meets_keys first_key last_key) block_pointers.old.items pointer) }
 {
-    if !meets_keys(&spot) {
+    if !meets_keys(&pointer) {
         return Ok(());
     }
-    match spots.push(spot) {
+    match block_pointers.push(pointer) {
         Ok(()) => Ok(()),
         Err(_) => Err(Memory),
     }
 }
 
 // Where the children of an inner node stand, of which `up` is the bound.
-fn children_of(alloc: Global, block: &[u8], up: Option<Key>) -> Result<Vec<Spot>, Memory>
+fn children_of(alloc: Global, block: &[u8], up: Option<Key>) -> Result<Vec<BlockPointer>, Memory>
     requires header { 101 ≤ length block.now }
     requires good { IsTrue (is_inner block.now) }
-    ensures { IfOk result (λ spots. spots.items
-        ≡ filter (meets_keys first_key last_key) (child_spots (pointers block.now) up)) }
+    ensures { IfOk result (λ block_pointers. block_pointers.items
+        ≡ filter (meets_keys first_key last_key) (child_pointers (pointers block.now) up)) }
 {
     let inner = Inner::of(block);
-    let mut spots = Vec::new(alloc);
+    let mut block_pointers = Vec::new(alloc);
     for at in 0..inner.count() {
-        push_child(&mut spots, child_at(&inner, at, up))?;
+        push_child(&mut block_pointers, child_at(&inner, at, up))?;
     }
-    Ok(spots)
+    Ok(block_pointers)
 }
 
 // Whether a key lies between the first and the last.
@@ -108,42 +108,47 @@ fn walk_items(walk: &mut Walk, addr: u64, block: &[u8]) -> Result<Option<Edges>,
     Ok(edges)
 }
 
-// Where the block of a level at a spot stands.
-fn place_of(level: u8, spot: &Spot) -> RootPlace
-    ensures { result ≡ tour.place_of level spot.now }
+// Where the block of a level at a pointer stands.
+fn place_of(level: u8, pointer: &BlockPointer) -> RootPlace
+    ensures { result ≡ tour.place_of level pointer.now }
 {
     RootPlace {
-        addr: spot.addr,
-        generation: spot.generation,
+        addr: pointer.addr,
+        generation: pointer.generation,
         level,
     }
 }
 
 // Walks a good block without its children.
-fn walk_good(level: u8, spot: &Spot, walk: &mut Walk, block: &[u8]) -> Result<Opened, Memory>
+fn walk_good(
+    level: u8,
+    pointer: &BlockPointer,
+    walk: &mut Walk,
+    block: &[u8],
+) -> Result<Opened, Memory>
     requires header { 101 ≤ length block.now }
     requires leaf { level ≡ 0 → IsTrue (is_leaf block.now) }
     requires inner { (level ≡ 0 → ⊥) → IsTrue (is_inner block.now) }
     ensures above { IfOk result (IsAbove level) }
-    ensures walked { IfOk result (OpensGood level spot.now block.now walk.old walk.new) }
+    ensures walked { IfOk result (OpensGood level pointer.now block.now walk.old walk.new) }
 {
-    walk.meet_block(&place_of(level, spot))?;
+    walk.meet_block(&place_of(level, pointer))?;
     if level == 0 {
-        let edges = walk_items(walk, spot.addr, block)?;
+        let edges = walk_items(walk, pointer.addr, block)?;
         Ok(Opened::Whole(edges))
     } else {
-        let spots = children_of(walk.alloc(), block, spot.up)?;
-        Ok(Opened::Children(spots))
+        let block_pointers = children_of(walk.alloc(), block, pointer.up)?;
+        Ok(Opened::Children(block_pointers))
     }
 }
 
-/// Walks the block of a level at a spot, without its children. Four slots are free, and no loan is
+/// Walks the block of a level at a pointer, without its children. Four slots are free, and no loan is
 /// kept.
 ///
 /// `Tree`: it could not be read, which is `Unread`. `Memory`: there is no memory for what is kept.
 pub(crate) fn open_block<R: Rack>(
     level: u8,
-    spot: &Spot,
+    pointer: &BlockPointer,
     walk: &mut Walk,
     rack: &mut R,
     vol: &mut Volume,
@@ -151,11 +156,11 @@ pub(crate) fn open_block<R: Rack>(
     requires ready { CanCheck (world (R.seen rack.old) vol.old) }
     ensures outside { StopsOutside result }
     ensures above { IfOk result (IsAbove level) }
-    ensures ran { Ran (Only (want_of level spot.now))
-        (λ fs. IfOk result (Opens fs level spot.now walk.old walk.new))
+    ensures ran { Ran (Only (want_of level pointer.now))
+        (λ fs. IfOk result (Opens fs level pointer.now walk.old walk.new))
         (world (R.seen rack.old) vol.old) (world (R.seen rack.new) vol.new) result }
 {
-    match read_block(level, spot, rack, &mut vol.store) {
+    match read_block(level, pointer, rack, &mut vol.store) {
         Err(fault) => match BlockFault::of(fault) {
             None => Err(Stop::Tree(fault)),
             Some(left) => match walk.meet_fault(left) {
@@ -164,7 +169,7 @@ pub(crate) fn open_block<R: Rack>(
             },
         },
         Ok(loan) => {
-            let opened = walk_good(level, spot, walk, vol.store.bytes(&loan));
+            let opened = walk_good(level, pointer, walk, vol.store.bytes(&loan));
             vol.store.give(loan);
             match opened {
                 Ok(opened) => Ok(opened),

@@ -18,12 +18,12 @@ pub(crate) struct BlockId {
 
 /// Blocks in the order that they were first met in.
 #[derive(Drop)]
-pub(crate) struct PlaceList {
+pub(crate) struct MetBlocks {
     keys: BTreeSet<BlockId>,
     list: Vec<RootPlace>,
 }
 
-impl Model for PlaceList {
+impl Model for MetBlocks {
     ghost use Rattle.btr_check.specs.Walking.{Places};
 
     ghost Value = { Places };
@@ -31,15 +31,15 @@ impl Model for PlaceList {
     ghost view = { λ places. record { keys = places.keys.keys; list = places.list.items } };
 }
 
-impl PlaceList {
+impl MetBlocks {
     ghost use Rattle.std.specs.Prelude.{◌≡◌, OnOk};
     ghost use Rattle.btr_check.specs.Walking.{no_places, with_place};
 
     /// No block was met yet.
-    pub(crate) fn new(alloc: Global) -> PlaceList
+    pub(crate) fn new(alloc: Global) -> MetBlocks
         ensures { result ≡ no_places }
     {
-        PlaceList {
+        MetBlocks {
             keys: BTreeSet::new(alloc),
             list: Vec::new(alloc),
         }

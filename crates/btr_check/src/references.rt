@@ -7,7 +7,7 @@ ghost use Rattle.btr_refs.specs.Forward.{nothing_counted};
 ghost use Rattle.btr_check.specs.Counting.{IsFull};
 ghost use Rattle.btr_check.specs.ExtentTree.{IsBegun};
 ghost use Rattle.btr_check.specs.Families.{found_on_groups};
-ghost use Rattle.btr_check.specs.Passes.{ListExtents, IsCounted, IsWalked, Lists, ListsSound, AddsFindingsAnd};
+ghost use Rattle.btr_check.specs.Passes.{ListExtents, KnowsUses, IsWalked, Lists, ListsSound, AddsFindingsAnd};
 ghost use Rattle.btr_check.specs.Running.{world, CanCheck, Ran};
 ghost use Rattle.btr_check.specs.Uses.{found_on_counts, found_on_totals, found_on_uses, reference_findings};
 ghost use Rattle.btr_check.specs.Wanted.{IfKnown, OfAllTrees};
@@ -96,8 +96,8 @@ fn put_counted<R: Rack>(
     vol: &mut Volume,
 ) -> Result<Vec<Extent>, Stop>
     requires ready { CanCheck (world (R.seen rack.old) vol.old) }
-    ensures ran { Ran (IfKnown (IsCounted trees.now places.items begun) OfAllTrees)
-        (AddsFindingsAnd (IsCounted trees.now places.items begun) ListExtents (λ fs. found_on_counts fs ++ found_on_uses fs) found.old found.new result)
+    ensures ran { Ran (IfKnown (KnowsUses trees.now places.items begun) OfAllTrees)
+        (AddsFindingsAnd (KnowsUses trees.now places.items begun) ListExtents (λ fs. found_on_counts fs ++ found_on_uses fs) found.old found.new result)
         (world (R.seen rack.old) vol.old) (world (R.seen rack.new) vol.new) result }
 {
     let forward = count_uses(

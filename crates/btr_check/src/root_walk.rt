@@ -32,7 +32,7 @@ impl Model for RootWalk {
 
 impl RootWalk {
     ghost use Rattle.std.specs.Prelude.{◌≡◌};
-    ghost use Rattle.btr_check.specs.Walking.{EndsWith, nothing_seen};
+    ghost use Rattle.btr_check.specs.Walking.{FindsTrees, nothing_seen};
 
     /// Nothing was met yet. Checksums are of this kind.
     pub(crate) fn new(alloc: Global, kind: SumKind) -> RootWalk
@@ -48,7 +48,7 @@ impl RootWalk {
 
     /// The trees, or what is wrong first.
     pub(crate) fn end(self) -> Result<Vec<TreeRoot>, BlockFault>
-        ensures { EndsWith self result }
+        ensures { FindsTrees self result }
     {
         match self.wrong {
             Some(fault) => Err(fault),

@@ -10,19 +10,19 @@ use crate::form::kind_of;
 use crate::opening::{Opened, open_block};
 use crate::walk::Walk;
 use btr_base::Memory;
-use btr_check_differences::same_spot;
+use btr_check_differences::same_pointer;
 use btr_check_names::{SubvolumeNames, Unpaired};
 use btr_findings::push;
 use btr_rack::Rack;
 use btr_volume::{Stop, TreeRoot, Volume};
-use btr_walk::Spot;
+use btr_walk::BlockPointer;
 use std::alloc::Global;
 
 /// A tree of files, and where the blocks below its root stand: none of these where the root is a leaf.
 #[derive(Drop)]
 pub(crate) struct RootedTree {
     pub(crate) tree: TreeRoot,
-    pub(crate) children: Vec<Spot>,
+    pub(crate) children: Vec<BlockPointer>,
 }
 
 /// A tree of files in which nothing is wrong, what a visit left of its names: those of subvolumes, and whether none of its items is an orphan's.
@@ -37,9 +37,9 @@ pub(crate) struct SoundTree {
 const MOST: usize = 16;
 
 // Whether a block is among some.
-fn is_among(spot: &Spot, others: &[Spot]) -> bool {
+fn is_among(pointer: &BlockPointer, others: &[BlockPointer]) -> bool {
     for other in others {
-        if same_spot(spot, other) {
+        if same_pointer(pointer, other) {
             return true;
         }
     }
@@ -47,25 +47,25 @@ fn is_among(spot: &Spot, others: &[Spot]) -> bool {
 }
 
 /// Whether two lists of blocks have one in common.
-pub(crate) fn share_one(some: &[Spot], others: &[Spot]) -> bool {
-    for spot in some {
-        if is_among(spot, others) {
+pub(crate) fn share_one(some: &[BlockPointer], others: &[BlockPointer]) -> bool {
+    for pointer in some {
+        if is_among(pointer, others) {
             return true;
         }
     }
     false
 }
 
-// Whether blocks stand at the same spots, in the same order.
-#[tactic(auto, using(crate::proofs::SoundTrees::spots_more, crate::proofs::SoundTrees::spots_all))]
-fn same_spots(some: &[Spot], others: &[Spot]) -> bool
+// Whether blocks stand at the same pointers, in the same order.
+#[tactic(auto, using(crate::proofs::SoundTrees::pointers_more, crate::proofs::SoundTrees::pointers_all))]
+fn same_pointers(some: &[BlockPointer], others: &[BlockPointer]) -> bool
     ensures { IsTrue result → some.now ≡ others.now }
 {
     if some.len() != others.len() {
         return false;
     }
     for at in 0..some.len() {
-        if !same_spot(&some[at], &others[at]) {
+        if !same_pointer(&some[at], &others[at]) {
             return false;
         }
     }
@@ -78,7 +78,7 @@ fn is_like(sound: &SoundTree, rooted: &RootedTree) -> bool
 {
     sound.rooted.tree.place.level == rooted.tree.place.level
         && sound.rooted.tree.dirid == rooted.tree.dirid
-        && same_spots(sound.rooted.children.as_slice(), rooted.children.as_slice())
+        && same_pointers(sound.rooted.children.as_slice(), rooted.children.as_slice())
 }
 
 /// Passes a tree that has the same blocks below its root as a sound one: nothing is wrong with it either, and its names of subvolumes are kept.
@@ -135,14 +135,14 @@ pub(crate) fn read_rooted<R: Rack>(
         (λ fs. Unless (λ rooted. AreBelow fs tree.now rooted.children.items) result)
         (world (R.seen rack.old) vol.old) (world (R.seen rack.new) vol.new) result }
 {
-    let spot = Spot {
+    let pointer = BlockPointer {
         addr: tree.place.addr,
         generation: tree.place.generation,
         first: None,
         up: None,
     };
     let mut walk = Walk::new(alloc, kind_of(&vol.sup));
-    match open_block(tree.place.level, &spot, &mut walk, rack, vol)? {
+    match open_block(tree.place.level, &pointer, &mut walk, rack, vol)? {
         Opened::Whole(_) => Ok(RootedTree {
             tree: *tree,
             children: Vec::new(alloc),

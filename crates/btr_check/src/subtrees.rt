@@ -10,7 +10,7 @@ use crate::walk::FileRange;
 use btr_base::{Key, Memory};
 use btr_check_differences::same_bound;
 use btr_volume::TreeRoot;
-use btr_walk::Spot;
+use btr_walk::BlockPointer;
 use std::alloc::Global;
 use std::collections::BTreeMap;
 
@@ -65,13 +65,13 @@ pub(crate) struct Subtrees {
     known: BTreeMap<BlockId, Subtree>,
 }
 
-// Where the block of a level at a spot stands.
-fn place_at(level: u8, spot: &Spot) -> BlockId
-    ensures { result ≡ place_at level spot.now }
+// Where the block of a level at a pointer stands.
+fn place_at(level: u8, pointer: &BlockPointer) -> BlockId
+    ensures { result ≡ place_at level pointer.now }
 {
     BlockId {
-        addr: spot.addr,
-        generation: spot.generation,
+        addr: pointer.addr,
+        generation: pointer.generation,
         level,
     }
 }
@@ -86,7 +86,7 @@ fn may_share(trees: &[TreeRoot]) -> bool
 impl Subtrees {
     ghost use Rattle.std.specs.Prelude.{◌≡◌, ◌&&◌, [], OnOk, MatchOption};
     ghost use Rattle.btr_check.specs.Filesystem.{is_file_tree};
-    ghost use Rattle.btr_check.specs.Passing.{IsKept, kept_if};
+    ghost use Rattle.btr_check.specs.Passing.{IsSubtreeKept, kept_if};
 
     /// None of these trees was walked yet.
     pub(crate) fn new(alloc: Global, trees: &[TreeRoot]) -> Subtrees
@@ -107,16 +107,16 @@ impl Subtrees {
         self.keeps = self.shares && is_file_tree(id);
     }
 
-    /// The edges of the subtree below the block of a level at a spot, if it is kept with its bounds.
-    pub(crate) fn find(&self, level: u8, spot: &Spot) -> Option<Option<Edges>>
+    /// The edges of the subtree below the block of a level at a pointer, if it is kept with its bounds.
+    pub(crate) fn find(&self, level: u8, pointer: &BlockPointer) -> Option<Option<Edges>>
         ensures { MatchOption result
-            ((edges : _) → IsKept self.now.known.entries level spot.now edges → ⊥)
-            (IsKept self.now.known.entries level spot.now) }
+            ((edges : _) → IsSubtreeKept self.now.known.entries level pointer.now edges → ⊥)
+            (IsSubtreeKept self.now.known.entries level pointer.now) }
     {
-        match self.known.get(&place_at(level, spot)) {
+        match self.known.get(&place_at(level, pointer)) {
             None => None,
             Some(kept) => {
-                if same_bound(kept.first, spot.first) && same_bound(kept.up, spot.up) {
+                if same_bound(kept.first, pointer.first) && same_bound(kept.up, pointer.up) {
                     Some(kept.edges)
                 } else {
                     None
@@ -125,28 +125,28 @@ impl Subtrees {
         }
     }
 
-    /// Keeps the subtree below the block of a level at a spot, in place of one with other bounds,
+    /// Keeps the subtree below the block of a level at a pointer, in place of one with other bounds,
     /// where subtrees are kept and it is sound. `Memory`: there is no memory for it.
     pub(crate) fn keep(
         &mut self,
         level: u8,
-        spot: &Spot,
+        pointer: &BlockPointer,
         edges: Option<Edges>,
         sound: bool,
     ) -> Result<(), Memory>
         ensures { OnOk result
             (self.new.known.entries
-            ≡ kept_if (self.old.keeps && sound) self.old.known.entries level spot.now edges) }
+            ≡ kept_if (self.old.keeps && sound) self.old.known.entries level pointer.now edges) }
     {
         if !self.keeps || !sound {
             return Ok(());
         }
         let subtree = Subtree {
-            first: spot.first,
-            up: spot.up,
+            first: pointer.first,
+            up: pointer.up,
             edges,
         };
-        match self.known.insert(place_at(level, spot), subtree) {
+        match self.known.insert(place_at(level, pointer), subtree) {
             Ok(_) => Ok(()),
             Err(_) => Err(Memory),
         }

@@ -6,7 +6,7 @@ ghost use Rattle.btr_check.specs.Walks.{fault_finding, not_apart, range_in};
 
 use crate::block_fault::BlockFault;
 use crate::form::broken_in;
-use crate::places::PlaceList;
+use crate::places::MetBlocks;
 use crate::subtrees::Edges;
 use btr_base::{Key, Memory, SumKind};
 use btr_findings::Finding;
@@ -33,7 +33,7 @@ pub struct Walk {
     broken: Vec<Finding>,
     overlapping: Vec<Finding>,
     last: Option<FileRange>,
-    places: PlaceList,
+    places: MetBlocks,
 }
 
 impl Model for Walk {
@@ -64,7 +64,7 @@ impl Walk {
             broken: Vec::new(alloc),
             overlapping: Vec::new(alloc),
             last: None,
-            places: PlaceList::new(alloc),
+            places: MetBlocks::new(alloc),
         }
     }
 

@@ -15,7 +15,7 @@ use crate::walk::Walk;
 use btr_base::Memory;
 use btr_rack::Rack;
 use btr_volume::{Stop, TreeRoot, Volume};
-use btr_walk::Spot;
+use btr_walk::BlockPointer;
 use std::alloc::Global;
 
 // Passes a subtree that was walked before.
@@ -31,26 +31,26 @@ fn pass(walk: &mut Walk, edges: Option<Edges>) -> Result<Option<Edges>, Stop>
 // Keeps a subtree that was walked, where nothing was found so far.
 fn keep(
     level: u8,
-    spot: &Spot,
+    pointer: &BlockPointer,
     edges: Option<Edges>,
     walk: &Walk,
     subtrees: &mut Subtrees,
 ) -> Result<Option<Edges>, Stop>
-    ensures { Keeps subtrees.old.keeps level spot.now edges walk.now
+    ensures { Keeps subtrees.old.keeps level pointer.now edges walk.now
         subtrees.old.known.entries subtrees.new.known.entries result }
 {
-    match subtrees.keep(level, spot, edges, walk.is_sound()) {
+    match subtrees.keep(level, pointer, edges, walk.is_sound()) {
         Ok(()) => Ok(edges),
         Err(Memory) => Err(Stop::Memory),
     }
 }
 
-// Walks what is below the block of a level at a spot: passes it where it was walked before with the
+// Walks what is below the block of a level at a pointer: passes it where it was walked before with the
 // same bounds.
 #[cycle(walking)]
 fn walk_block<R: Rack>(
     level: u8,
-    spot: &Spot,
+    pointer: &BlockPointer,
     walk: &mut Walk,
     subtrees: &mut Subtrees,
     rack: &mut R,
@@ -58,23 +58,23 @@ fn walk_block<R: Rack>(
 ) -> Result<Option<Edges>, Stop>
     requires ready { CanCheck (world (R.seen rack.old) vol.old) }
     ensures outside { StopsOutside result }
-    ensures ran { Ran (OfSubtree level spot.now)
-        (λ fs. Walks fs (subtree_marks fs level spot.now) walk.old walk.new
+    ensures ran { Ran (OfSubtree level pointer.now)
+        (λ fs. Walks fs (subtree_marks fs level pointer.now) walk.old walk.new
         subtrees.old.known.entries subtrees.new.known.entries result)
         (world (R.seen rack.old) vol.old) (world (R.seen rack.new) vol.new) result }
 {
-    if let Some(edges) = subtrees.find(level, spot) {
+    if let Some(edges) = subtrees.find(level, pointer) {
         return pass(walk, edges);
     }
-    let edges = walk_below(level, spot, walk, subtrees, rack, vol)?;
-    keep(level, spot, edges, walk, subtrees)
+    let edges = walk_below(level, pointer, walk, subtrees, rack, vol)?;
+    keep(level, pointer, edges, walk, subtrees)
 }
 
 // The same of one that wasn't walked before.
 #[cycle(walking)]
 fn walk_below<R: Rack>(
     level: u8,
-    spot: &Spot,
+    pointer: &BlockPointer,
     walk: &mut Walk,
     subtrees: &mut Subtrees,
     rack: &mut R,
@@ -82,15 +82,22 @@ fn walk_below<R: Rack>(
 ) -> Result<Option<Edges>, Stop>
     requires ready { CanCheck (world (R.seen rack.old) vol.old) }
     ensures outside { StopsOutside result }
-    ensures ran { Ran (OfSubtree level spot.now)
-        (λ fs. Walks fs (subtree_marks fs level spot.now) walk.old walk.new
+    ensures ran { Ran (OfSubtree level pointer.now)
+        (λ fs. Walks fs (subtree_marks fs level pointer.now) walk.old walk.new
         subtrees.old.known.entries subtrees.new.known.entries result)
         (world (R.seen rack.old) vol.old) (world (R.seen rack.new) vol.new) result }
 {
-    match open_block(level, spot, walk, rack, vol)? {
+    match open_block(level, pointer, walk, rack, vol)? {
         Opened::Whole(edges) => Ok(edges),
-        Opened::Children(spots) => {
-            walk_children(level - 1, spots.as_slice(), walk, subtrees, rack, vol)
+        Opened::Children(block_pointers) => {
+            walk_children(
+                level - 1,
+                block_pointers.as_slice(),
+                walk,
+                subtrees,
+                rack,
+                vol,
+            )
         }
     }
 }
@@ -99,7 +106,7 @@ fn walk_below<R: Rack>(
 #[cycle(walking)]
 fn walk_children<R: Rack>(
     level: u8,
-    spots: &[Spot],
+    block_pointers: &[BlockPointer],
     walk: &mut Walk,
     subtrees: &mut Subtrees,
     rack: &mut R,
@@ -107,14 +114,14 @@ fn walk_children<R: Rack>(
 ) -> Result<Option<Edges>, Stop>
     requires ready { CanCheck (world (R.seen rack.old) vol.old) }
     ensures outside { StopsOutside result }
-    ensures ran { Ran (OfSubtrees level spots.now)
-        (λ fs. (addr : ℕ) → Walks fs (children_marks fs addr level spots.now)
+    ensures ran { Ran (OfSubtrees level block_pointers.now)
+        (λ fs. (addr : ℕ) → Walks fs (children_marks fs addr level block_pointers.now)
         walk.old walk.new subtrees.old.known.entries subtrees.new.known.entries result)
         (world (R.seen rack.old) vol.old) (world (R.seen rack.new) vol.new) result }
 {
     let mut edges = None;
-    for spot in spots {
-        let more = walk_block(level, spot, walk, subtrees, rack, vol)?;
+    for pointer in block_pointers {
+        let more = walk_block(level, pointer, walk, subtrees, rack, vol)?;
         edges = join(edges, more);
     }
     Ok(edges)
@@ -139,13 +146,13 @@ fn walk_tree<R: Rack>(
 {
     walk.begin();
     subtrees.begin(tree.id);
-    let spot = Spot {
+    let pointer = BlockPointer {
         addr: tree.place.addr,
         generation: tree.place.generation,
         first: None,
         up: None,
     };
-    walk_block(tree.place.level, &spot, walk, subtrees, rack, vol)?;
+    walk_block(tree.place.level, &pointer, walk, subtrees, rack, vol)?;
     Ok(())
 }
 

@@ -13,6 +13,7 @@ use Rattle.btr_check_differences.specs.Law.{AlikeLaw, is_own, is_plain}
 use Rattle.btr_check_differences.specs.Ranges.{high, holds, is_among, items_among, items_beside, low}
 use Rattle.btr_check_differences.proofs.Tours.{tours_law}
 
+-- two tests of order agree where each order gives the other
 leb_same : (a b c d : ℕ) → (a ≤ b → c ≤ d) → (c ≤ d → a ≤ b) → leb a b ≡ leb c d
 leb_same a b c d f g = by (leb a b) (leb c d) refl refl
   where
@@ -27,6 +28,7 @@ leb_same a b c d f g = by (leb a b) (leb c d) refl refl
 
 -- a key of these sizes lies in a range where its inode does
 module _ (key : Key) (kind : key.kind ≤ 255) (offset : key.offset ≤ 2 ^ 64 - 1) where
+  -- the key is one of a range just where its inode is
   held_same : (range : InodeRange) → holds key range ≡ (leb range.first key.objectid && leb key.objectid range.last)
   held_same range =
       let one : key_le (low range) key ≡ leb range.first key.objectid =
@@ -35,12 +37,14 @@ module _ (key : Key) (kind : key.kind ≤ 255) (offset : key.offset ≤ 2 ^ 64 -
       leb_same (key_number key) (key_number (high range)) key.objectid range.last (λ le. omega (arith, le)) (λ le. omega (arith, le, kind, offset)) in
       λ i. one i && two i
 
+  -- the key is one of some ranges just where its inode is
   among_same : (ranges : List InodeRange) → is_among ranges key ≡ is_own ranges key.objectid
   among_same [] = refl
   among_same (range ∷ ranges) = λ i. held_same range i || among_same ranges i
 
 -- of plain items those of some inodes are those whose keys lie in the ranges
 module _ (ranges : List InodeRange) where
+  -- a plain item is of an inode in the ranges just where its key is one of theirs
   inode_same : (item : TreeItem) → is_plain item ≡ true → is_own ranges (inode_of_key item.key) ≡ is_among ranges item.key
   inode_same item plain =
       let key = item.key in
@@ -53,6 +57,7 @@ module _ (ranges : List InodeRange) where
       not_true true e = cc
       not_true false e = refl
 
+  -- tests that agree on plain items leave the same of such
   filter_same : (p q : TreeItem → Bool) (items : List TreeItem) → ((item : TreeItem) → is_plain item ≡ true → p item ≡ q item)
       → list_all is_plain items ≡ true → filter p items ≡ filter q items
   filter_same p q [] same plain = refl
@@ -61,9 +66,11 @@ module _ (ranges : List InodeRange) where
       let rest = filter_same p q items same parts.1 in
       λ i. cond (same item parts.0 i) (item ∷ rest i) (rest i)
 
+  -- plain items of inodes in the ranges are those whose keys are theirs
   own_items : (items : List TreeItem) → list_all is_plain items ≡ true → items_of (is_own ranges) items ≡ items_among ranges items
   own_items items plain = filter_same (λ item. is_own ranges (inode_of_key item.key)) (λ item. is_among ranges item.key) items inode_same plain
 
+  -- plain items of all other inodes are those whose keys are not theirs
   other_items : (items : List TreeItem) → list_all is_plain items ≡ true → items_of (others (is_own ranges)) items ≡ items_beside ranges items
   other_items items plain =
       filter_same (λ item. not (is_own ranges (inode_of_key item.key))) (λ item. not (is_among ranges item.key)) items
@@ -86,6 +93,7 @@ all_parts test own (item ∷ items) h k = by (own item) h k (all_parts test own 
         let parts = and_parts (test item) (list_all test (filter (λ x. not (own x)) items)) k in
         let more = rest h parts.1 in λ i. parts.0 i && more i
 
+-- what holds of all items holds of a part of them
 all_of_part : (test own : TreeItem → Bool) (items : List TreeItem) → list_all test items ≡ true → list_all test (filter own items) ≡ true
 all_of_part test own [] h = refl
 all_of_part test own (item ∷ items) h =
@@ -97,6 +105,7 @@ all_of_part test own (item ∷ items) h =
     by true e rest = λ i. e i && rest i
     by false e rest = rest
 
+-- tours over the inodes by which two trees differ settle the second tree by the first one
 pub alike_law : AlikeLaw
 alike_law B dirid level before after old new ranges c =
     let one = items_met (whole B before) in

@@ -24,10 +24,12 @@ read_then P Q S x y z one two f = record {
 pub read_as : (P S : Map → Type 0) (x y : World) → Read P x y → ((B : Map) → P B → S B) → Read S x y
 read_as P S x y one f = record { reads = one.reads; loans = one.loans; ready = one.ready; told = drawn x.store.layout P S f one.told }
 
+-- what follows from what holds of an answer holds of it
 pub on_some : {A : Type 0} (r : Option A) (P Q : Type 0) → (P → Q) → OnSome r P → OnSome r Q
 on_some None P Q f h = tt
 on_some (Some a) P Q f h = f h
 
+-- what follows from two things that hold of an answer holds of it
 pub on_both : {A : Type 0} (r : Option A) (P Q S : Type 0) → (P → Q → S) → OnSome r P → OnSome r Q → OnSome r S
 on_both None P Q S f h k = tt
 on_both (Some a) P Q S f h k = f h k

@@ -9,7 +9,7 @@ use Rattle.btr_base.specs.declared.key.Key.{Key}
 use Rattle.btr_node.specs.Block.{Item as NodeItem, ascends}
 use Rattle.btr_walk.specs.Le.{TreeItem, tree_item}
 use Rattle.btr_walk.specs.Range.{is_within, items_within}
-use Rattle.btr_walk.specs.Spot.{is_below, item_keys}
+use Rattle.btr_walk.specs.BlockPointer.{is_below, item_keys}
 use Rattle.btr_check_differences.specs.declared.inode_range.InodeRange.{InodeRange}
 use Rattle.btr_check_differences.specs.Ranges.{are_apart, high, holds, is_among, is_before, is_range, low}
 
@@ -28,19 +28,23 @@ abbrev pub Chain : ℕ → List TreeItem → Option Key → Type 0
 Chain from [] up = UpTo from up
 Chain from (item ∷ items) up = (from ≤ key_number item.key) × Chain (key_number item.key + 1) items up
 
+-- a number that isn't above another isn't above that one's bound
 up_less : (a b : ℕ) (up : Option Key) → a ≤ b → UpTo b up → UpTo a up
 up_less a b None le h = tt
 up_less a b (Some up) le h = omega (arith, le, h)
 
+-- items in order from a number on are so from a lower one on
 pub chain_from : (a b : ℕ) (xs : List TreeItem) (up : Option Key) → a ≤ b → Chain b xs up → Chain a xs up
 chain_from a b [] up le h = up_less a b up le h
 chain_from a b (x ∷ xs) up le h = (omega (arith, le, h.0), h.1)
 
+-- items in order up to a key, and then some from it on, are in order all together
 pub chain_then : (a : ℕ) (xs : List TreeItem) (mid : Key) (ys : List TreeItem) (up : Option Key) → Chain a xs (Some mid) → Chain (key_number mid) ys up
     → Chain a (xs ++ ys) up
 chain_then a [] mid ys up h k = chain_from a (key_number mid) ys up h k
 chain_then a (x ∷ xs) mid ys up h k = (h.0, chain_then (key_number x.key + 1) xs mid ys up h.1 k)
 
+-- the number that items in order begin from isn't above their bound
 pub chain_end : (a : ℕ) (xs : List TreeItem) (up : Option Key) → Chain a xs up → UpTo a up
 chain_end a [] up h = h
 chain_end a (x ∷ xs) up h = up_less a (key_number x.key + 1) up (omega (arith, h.0)) (chain_end (key_number x.key + 1) xs up h.1)
@@ -79,16 +83,19 @@ module _ (lo hi : Key) where
 
 -- the items of a leaf are a chain
 module _ (lo hi : Key) (addr : ℕ) where
+  -- with one item more in front, whether it is met or not, the items are in order
   leaf_rest : (a : ℕ) (x : NodeItem) (xs : List NodeItem) (up : Option Key) (b : Bool) → is_within lo hi x ≡ b → a ≤ key_number x.key
       → Chain (key_number x.key + 1) (items_within lo hi addr xs) up
       → Chain a (map (tree_item addr) (cond b (x ∷ filter (is_within lo hi) xs) (filter (is_within lo hi) xs))) up
   leaf_rest a x xs up true e from rest = (from, rest)
   leaf_rest a x xs up false e from rest = chain_from a (key_number x.key + 1) (items_within lo hi addr xs) up (omega (arith, from)) rest
 
+  -- the number behind a key that is below a bound isn't above the bound
   below_up : (up : Option Key) (key : Key) → is_below up key ≡ true → UpTo (key_number key + 1) up
   below_up None key e = tt
   below_up (Some up) key e = let less : key_number key < key_number up = ltb-true _ _ e in omega (arith, less)
 
+  -- the items of a leaf behind one of them are in order up to the bound
   leaf_more : (x : NodeItem) (xs : List NodeItem) (up : Option Key) → ascends (item_keys (x ∷ xs)) ≡ true
       → list_all (is_below up) (item_keys (x ∷ xs)) ≡ true → Chain (key_number x.key + 1) (items_within lo hi addr xs) up
   leaf_more x [] up asc below = below_up up x.key (and_parts (is_below up x.key) true below).0
@@ -98,6 +105,7 @@ module _ (lo hi : Key) (addr : ℕ) where
       let less : key_number x.key < key_number y.key = ltb-true _ _ parts.0 in
       leaf_rest (key_number x.key + 1) y ys up (is_within lo hi y) refl (omega (arith, less)) (leaf_more y ys up parts.1 here.1)
 
+  -- the items met of a leaf are in order, where its keys ascend below a bound
   pub leaf_chain : (a : ℕ) (x : NodeItem) (xs : List NodeItem) (up : Option Key) → a ≤ key_number x.key → ascends (item_keys (x ∷ xs)) ≡ true
       → list_all (is_below up) (item_keys (x ∷ xs)) ≡ true → Chain a (items_within lo hi addr (x ∷ xs)) up
   leaf_chain a x xs up from asc below = leaf_rest a x xs up (is_within lo hi x) refl from (leaf_more x xs up asc below)
@@ -110,11 +118,13 @@ above_first r q key less le =
     let from : key_number (low q) ≤ key_number key = leb-true _ _ le in
     omega (arith, from, less)
 
+-- a key of a range or of those behind it is above a range before all of these
 above_by : (r q : InodeRange) (rs : List InodeRange) (key : Key) (b : Bool) → holds key q ≡ b → r.last < q.first → q.first ≤ q.last
     → (is_among rs key ≡ true → key_number (high q) < key_number key) → (b || is_among rs key) ≡ true → key_number (high r) < key_number key
 above_by r q rs key true e less le rest h = above_first r q key less (and_parts (key_le (low q) key) (key_le key (high q)) e).0
 above_by r q rs key false e less le rest h = let later = rest h in omega (arith, later, less, le)
 
+-- a key of ranges that are apart, all behind another one, is above each key of that
 pub above_all : (r : InodeRange) (rs : List InodeRange) (key : Key) → is_before r rs ≡ true → are_apart rs ≡ true → is_among rs key ≡ true
     → key_number (high r) < key_number key
 above_all r [] key before apart among = cc
@@ -126,15 +136,19 @@ above_all r (q ∷ rs) key before apart among =
 
 -- items that are of one of some ranges are first those of the first one, and then those of the others
 module _ (r : InodeRange) (rs : List InodeRange) (before : is_before r rs ≡ true) (apart : are_apart rs ≡ true) where
+  -- an item is of the first range
   abbrev of_first : TreeItem → Bool
   of_first = between (low r) (high r)
 
+  -- an item is of one of the other ranges
   abbrev of_others : TreeItem → Bool
   of_others item = is_among rs item.key
 
+  -- an item is of any of the ranges
   abbrev of_any : TreeItem → Bool
   of_any item = is_among (r ∷ rs) item.key
 
+  -- with one item more in front those of any range are still those of the first one, and then those of the others
   split_by : (x : TreeItem) (xs : List TreeItem) (up : Option Key) (b c : Bool) → of_first x ≡ b → of_others x ≡ c → Chain (key_number x.key + 1) xs up
       → filter of_any xs ≡ filter of_first xs ++ filter of_others xs
       → cond (b || c) (x ∷ filter of_any xs) (filter of_any xs)
@@ -150,6 +164,7 @@ module _ (r : InodeRange) (rs : List InodeRange) (before : is_before r rs ≡ tr
       ap (λ l. x ∷ l) (rest ∙ ap (λ l. l ++ filter of_others xs) none) ∙ sym (ap (λ l. l ++ x ∷ filter of_others xs) none)
   split_by x xs up false false e f h rest = rest
 
+  -- items in order of any of the ranges are those of the first one, and then those of the others
   pub split : (a : ℕ) (xs : List TreeItem) (up : Option Key) → Chain a xs up → filter of_any xs ≡ filter of_first xs ++ filter of_others xs
   split a [] up h = refl
   split a (x ∷ xs) up h = split_by x xs up (of_first x) (of_others x) refl refl h.1 (split (key_number x.key + 1) xs up h.1)

@@ -20,7 +20,8 @@ use Rattle.btr_check_sums.specs.Sums.{range_missing, tree_missing, used_missing}
 use Rattle.btr_check_sums.specs.declared.used_range.UsedRange.{UsedRange}
 use Rattle.btr_check_differences.specs.Law.{MissingLaw}
 
-both_none : {X : Type 0} (xs ys : List X) → xs ++ ys ≡ [] → (xs ≡ []) × (ys ≡ [])
+-- where two lists together are empty, each of them is
+pub both_none : {X : Type 0} (xs ys : List X) → xs ++ ys ≡ [] → (xs ≡ []) × (ys ≡ [])
 both_none [] ys e = (refl, e)
 both_none (x ∷ xs) ys e = cc
 
@@ -40,6 +41,7 @@ plain_inode item kind other e =
     let same : item.key.kind ≡ kind = eqb-true _ _ e in
     ap (λ b. cond b item.key.offset item.key.objectid) (ne_eqb item.key.kind orphan_item (λ h. other (sym same ∙ h)))
 
+-- an inode whose data has no checksums, by an item, is the one that the item is of
 loose_is : (item : TreeItem) → IsNumber (inode_of_key item.key) (loose_in item)
 loose_is item = by (eqb item.key.kind inode_item) refl
   where
@@ -57,6 +59,7 @@ loose_is item = by (eqb item.key.kind inode_item) refl
     by false e = tt
     by true e = found (result_ok (inode_of item.body)) (plain_inode item inode_item (λ h. absurd (omega (arith, h))) e)
 
+-- a range that a file uses, by an item, is of the inode that the item is of
 used_is : (item : TreeItem) → IsOf (inode_of_key item.key) (used_in item)
 used_is item = by (eqb item.key.kind extent_data) refl
   where
@@ -89,17 +92,21 @@ has numbers number = list_any (λ one. eqb one number) numbers
 
 -- whether an inode of a part of the items is loose the part says
 module _ (p : ℕ → Bool) (number : ℕ) (is : p number ≡ true) where
+  -- the number of an inode outside of the part is another one
   other_number : (a : ℕ) → p a ≡ false → eqb a number ≡ false
   other_number a aside = ne_eqb a number (λ same. true≢false (sym is ∙ sym (ap p same) ∙ aside))
 
+  -- an item of an inode outside of the part doesn't say that this one has no checksums
   not_this : (o : Option ℕ) (inode : ℕ) (rest : List ℕ) → IsNumber inode o → p inode ≡ false → has (cons_option o rest) number ≡ has rest number
   not_this None inode rest e aside = refl
   not_this (Some one) inode rest e aside = ap (λ b. b || has rest number) (other_number one (ap p e ∙ aside))
 
+  -- two lists that both have a number, or both not, are so with one more in front
   has_then : (o : Option ℕ) (xs ys : List ℕ) → has xs number ≡ has ys number → has (cons_option o xs) number ≡ has (cons_option o ys) number
   has_then None xs ys e = e
   has_then (Some one) xs ys e = ap (λ b. eqb one number || b) e
 
+  -- an inode has no checksums by all items just where it has none by those of the part that it is in
   loose_part : (items : List TreeItem) → has (filter_map loose_in items) number ≡ has (filter_map loose_in (items_of p items)) number
   loose_part [] = refl
   loose_part (item ∷ items) = by (p (inode_of_key item.key)) refl (loose_part items)
@@ -111,6 +118,7 @@ module _ (p : ℕ → Bool) (number : ℕ) (is : p number ≡ true) where
       by false e rest = not_this (loose_in item) (inode_of_key item.key) (filter_map loose_in items) (loose_is item) e ∙ rest
 
 module _ (chunks : List Chunk) (runs : List SumRun) (tree : ℕ) where
+  -- the checksums that are missing of a range, if there is one
   abbrev missing : List ℕ → Option UsedRange → List Finding
   missing loose None = []
   missing loose (Some range) = range_missing chunks runs tree loose range
@@ -120,22 +128,26 @@ module _ (chunks : List Chunk) (runs : List SumRun) (tree : ℕ) where
   AllThere loose [] = Unit {0}
   AllThere loose (item ∷ items) = (missing loose (used_in item) ≡ []) × AllThere loose items
 
+  -- what is missing with one more range is what is missing of it, and then of the others
   missing_then : (loose : List ℕ) (o : Option UsedRange) (used : List UsedRange)
       → tree_missing chunks runs tree loose (cons_option o used) ≡ missing loose o ++ tree_missing chunks runs tree loose used
   missing_then loose None used = refl
   missing_then loose (Some range) used = refl
 
+  -- where nothing is missing of all items, nothing is of each one
   each_there : (loose : List ℕ) (items : List TreeItem) → tree_missing chunks runs tree loose (filter_map used_in items) ≡ [] → AllThere loose items
   each_there loose [] e = tt
   each_there loose (item ∷ items) e =
       let two = both_none _ _ (sym (missing_then loose (used_in item) (filter_map used_in items)) ∙ e) in
       (two.0, each_there loose items two.1)
 
+  -- where nothing is missing of each item, nothing is of all
   none_missing : (loose : List ℕ) (items : List TreeItem) → AllThere loose items → tree_missing chunks runs tree loose (filter_map used_in items) ≡ []
   none_missing loose [] h = refl
   none_missing loose (item ∷ items) h =
       missing_then loose (used_in item) (filter_map used_in items) ∙ (λ i. h.0 i ++ none_missing loose items h.1 i)
 
+  -- where nothing is missing of some items, nothing is of a part of them
   there_part : (p : TreeItem → Bool) (loose : List ℕ) (items : List TreeItem) → AllThere loose items → AllThere loose (filter p items)
   there_part p loose [] h = tt
   there_part p loose (item ∷ items) h = by (p item) h.0 (there_part p loose items h.1)
@@ -145,6 +157,7 @@ module _ (chunks : List Chunk) (runs : List SumRun) (tree : ℕ) where
       by true e rest = (e, rest)
       by false e rest = rest
 
+  -- where nothing is missing of a part of some items and of the rest, nothing is of all
   there_both : (p : TreeItem → Bool) (loose : List ℕ) (items : List TreeItem) → AllThere loose (filter p items)
       → AllThere loose (filter (λ item. not (p item)) items) → AllThere loose items
   there_both p loose [] h k = tt
@@ -159,11 +172,13 @@ module _ (chunks : List Chunk) (runs : List SumRun) (tree : ℕ) where
 
   -- what is loose of other inodes doesn't matter to a part
   module _ (p : ℕ → Bool) (loose loose' : List ℕ) (same : (number : ℕ) → p number ≡ true → has loose number ≡ has loose' number) where
+    -- of a range of an inode in the part, the same is missing by both lists of inodes without checksums
     missing_same : (o : Option UsedRange) (number : ℕ) → IsOf number o → p number ≡ true → missing loose o ≡ missing loose' o
     missing_same None number e is = refl
     missing_same (Some range) number e is =
         ap (λ b. cond b [] (used_missing chunks runs tree range)) (same range.inode (ap p e ∙ is))
 
+    -- where nothing is missing of the part by one list of inodes without checksums, nothing is by the other
     there_same : (items : List TreeItem) → AllThere loose (items_of p items) → AllThere loose' (items_of p items)
     there_same [] h = tt
     there_same (item ∷ items) h = by (p (inode_of_key item.key)) refl h (there_same items)
@@ -174,6 +189,7 @@ module _ (chunks : List Chunk) (runs : List SumRun) (tree : ℕ) where
         by true e h rest = (sym (missing_same (used_in item) (inode_of_key item.key) (used_is item) e) ∙ h.0, rest h.1)
         by false e h rest = rest h
 
+-- nothing is missing of a tree where nothing is of its own items, nor of a tree with the same others
 pub missing_law : MissingLaw
 missing_law chunks runs tree own before after shared one two =
     let loose : List TreeItem → List ℕ = filter_map loose_in in

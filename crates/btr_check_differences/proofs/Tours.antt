@@ -8,7 +8,7 @@ use Rattle.std.proofs.lemmas.List.Sums.{fold-append}
 use Rattle.btr_base.specs.Key.{key_number, last_key}
 use Rattle.btr_tour.specs.Tour.{Mark, items_met, tour, whole}
 use Rattle.btr_walk.specs.declared.place.RootPlace.{RootPlace}
-use Rattle.btr_walk.specs.Le.{TreeItem, root_spot}
+use Rattle.btr_walk.specs.Le.{TreeItem, root_pointer}
 use Rattle.btr_walk.specs.Reading.{Map}
 use Rattle.btr_check_differences.specs.declared.inode_range.InodeRange.{InodeRange}
 use Rattle.btr_check_differences.specs.Law.{ToursLaw, tours}
@@ -17,10 +17,12 @@ use Rattle.btr_check_differences.proofs.Chains.{split}
 use Rattle.btr_check_differences.proofs.Nodes.{items_then}
 use Rattle.btr_check_differences.proofs.Within.{tour_chain, tour_within}
 
+-- of no ranges there are no items
 none_among : (items : List TreeItem) → items_among [] items ≡ []
 none_among [] = refl
 none_among (item ∷ items) = none_among items
 
+-- tours over ranges that are apart meet just those items of the whole tree that are of their inodes
 pub tours_law : ToursLaw
 tours_law B root [] apart = sym (none_among (items_met (whole B root)))
 tours_law B root (range ∷ ranges) apart =
@@ -30,8 +32,8 @@ tours_law B root (range ∷ ranges) apart =
     let top : key_number (high range) ≤ key_number last_key = omega (arith, small) in
     let all = items_met (whole B root) in
     items_then (tour (low range) (high range) B root) (tours B root ranges)
-    ∙ (λ i. tour_within (low range) (high range) top B root.level (root_spot root) tt i ++ tours_law B root ranges more.1 i)
-    ∙ sym (split range ranges more.0 more.1 0 all _ (tour_chain B root.level (root_spot root) tt))
+    ∙ (λ i. tour_within (low range) (high range) top B root.level (root_pointer root) tt i ++ tours_law B root ranges more.1 i)
+    ∙ sym (split range ranges more.0 more.1 0 all _ (tour_chain B root.level (root_pointer root) tt))
 
 -- one range more was toured
 pub tours_more : {St : Type 0} (step : St → Mark → St) (old : St) (B : Map) (root : RootPlace) (ranges : List InodeRange) (i : ℕ) (d : InodeRange)

@@ -11,7 +11,7 @@ use Rattle.btr_check_sums.specs.Items.{loose_in, used_in}
 use Rattle.btr_check_sums.specs.Sums.{tree_missing}
 use Rattle.btr_tour.specs.Tour.{Mark, items_met, tour, whole}
 use Rattle.btr_walk.specs.declared.place.RootPlace.{RootPlace}
-use Rattle.btr_walk.specs.declared.spot.Spot.{Spot}
+use Rattle.btr_walk.specs.declared.block_pointer.BlockPointer.{BlockPointer}
 use Rattle.btr_walk.specs.Le.{TreeItem}
 use Rattle.btr_walk.specs.Reading.{Map}
 use Rattle.btr_check_differences.specs.declared.inode_range.InodeRange.{InodeRange}
@@ -42,7 +42,7 @@ is_own ranges number = list_any (λ (range : InodeRange). nat_le range.first num
 -- alone. Nothing of the first one is an orphan's, nor of what tours of the second one over these
 -- ranges meet. These are whole, and with tours of the first one all are paired
 pub record AreCompared (B : Map) (dirid level : ℕ) (before after : RootPlace)
-    (old new : List Spot) (ranges : List InodeRange) : Type 0 where
+    (old new : List BlockPointer) (ranges : List InodeRange) : Type 0 where
   pub below : items_met (whole B before) ≡ items_below B level old
   pub below_new : items_met (whole B after) ≡ items_below B level new
   pub apart : are_apart ranges ≡ true
@@ -63,7 +63,7 @@ pub record AreAlike (B : Map) (dirid : ℕ) (before after : RootPlace) (ranges :
 -- trees that are so compared are alike
 abbrev pub AlikeLaw : Type 0
 AlikeLaw = (B : Map) (dirid level : ℕ) (before after : RootPlace)
-    (old new : List Spot) (ranges : List InodeRange)
+    (old new : List BlockPointer) (ranges : List InodeRange)
     → AreCompared B dirid level before after old new ranges → AreAlike B dirid before after ranges
 
 -- nothing is missing of the checksums of the sectors that files use, of which these are the items

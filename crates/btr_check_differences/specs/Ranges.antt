@@ -4,8 +4,8 @@ use Rattle.std.specs.Prelude.{[], ◌∷◌, filter, Option, Some, None}
 use Rattle.std.specs.List.{list_any}
 use Rattle.btr_base.specs.Key.{key_le, key_number, last_key}
 use Rattle.btr_base.specs.declared.key.Key.{Key}
-use Rattle.btr_walk.specs.declared.spot.Spot.{Spot}
-use Rattle.btr_walk.specs.Spot.{is_below}
+use Rattle.btr_walk.specs.declared.block_pointer.BlockPointer.{BlockPointer}
+use Rattle.btr_walk.specs.BlockPointer.{is_below}
 use Rattle.btr_walk.specs.Le.{TreeItem}
 use Rattle.btr_check_differences.specs.declared.inode_range.InodeRange.{InodeRange}
 
@@ -56,9 +56,9 @@ abbrev pub is_from : Option Key → Key → Bool
 is_from None key = true
 is_from (Some first) key = key_le first key
 
--- a block at a spot may have a key
-abbrev pub may_have : Spot → Key → Bool
-may_have spot key = is_from spot.first key && (is_below spot.up key && key_le key last_key)
+-- a block at a pointer may have a key
+abbrev pub may_have : BlockPointer → Key → Bool
+may_have pointer key = is_from pointer.first key && (is_below pointer.up key && key_le key last_key)
 
 -- a block with this first key has no items of inodes below this one
 abbrev pub BeginsAt : Option Key → ℕ → Type 0
@@ -70,9 +70,9 @@ abbrev pub EndsAt : Option Key → ℕ → Type 0
 EndsAt up inode = (key : Key) → is_below up key ≡ true → key_le key last_key ≡ true
     → key_number key ≤ key_number (high (record { first = inode; last = inode }))
 
--- a range has each inode of which a block at a spot may have items
-abbrev pub Covers : Spot → InodeRange → Type 0
-Covers spot range = (key : Key) → may_have spot key ≡ true → holds key range ≡ true
+-- a range has each inode of which a block at a pointer may have items
+abbrev pub Covers : BlockPointer → InodeRange → Type 0
+Covers pointer range = (key : Key) → may_have pointer key ≡ true → holds key range ≡ true
 
 -- a range has all of two others
 pub record Joins (one other both : InodeRange) : Type 0 where
@@ -86,9 +86,9 @@ pub record Takes (old : List InodeRange) (range : InodeRange) (new : List InodeR
   pub kept : AreIn old new
   pub taken : AreIn (range ∷ []) new
 
--- the inodes of which blocks at some spots may have items came to others
-pub record TakesAll (old : List InodeRange) (spots : List Spot) (new : List InodeRange)
+-- the inodes of which blocks at some pointers may have items came to others
+pub record TakesAll (old : List InodeRange) (block_pointers : List BlockPointer) (new : List InodeRange)
     : Type 0 where
   pub kept : AreIn old new
-  pub taken : (key : Key) → list_any (λ spot. may_have spot key) spots ≡ true
+  pub taken : (key : Key) → list_any (λ pointer. may_have pointer key) block_pointers ≡ true
       → is_among new key ≡ true

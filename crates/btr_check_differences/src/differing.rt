@@ -10,29 +10,29 @@ use crate::inode_range::{InodeRange, are_apart};
 use crate::shared::next_shared;
 use btr_rack::Rack;
 use btr_read::Store;
-use btr_walk::Spot;
+use btr_walk::BlockPointer;
 use std::alloc::Global;
 
 // Takes the inodes that may have items in some leaves. `None`: there are too many.
-fn take_leaves(spots: &[Spot], found: &mut Found) -> Option<()>
-    ensures { OnSome result (TakesAll found.old.ranges.items spots.now found.new.ranges.items) }
+fn take_leaves(block_pointers: &[BlockPointer], found: &mut Found) -> Option<()>
+    ensures { OnSome result (TakesAll found.old.ranges.items block_pointers.now found.new.ranges.items) }
 {
-    for spot in spots {
-        found.take_leaf(spot)?;
+    for pointer in block_pointers {
+        found.take_leaf(pointer)?;
     }
     Some(())
 }
 
 // What is behind a place.
-fn behind(spots: &[Spot], at: usize) -> &[Spot]
-    requires { at < length spots.now }
-    ensures { result.now ≡ drop (at + 1) spots.now }
+fn behind(block_pointers: &[BlockPointer], at: usize) -> &[BlockPointer]
+    requires { at < length block_pointers.now }
+    ensures { result.now ≡ drop (at + 1) block_pointers.now }
 {
-    &spots[at + 1..]
+    &block_pointers[at + 1..]
 }
 
 // The same of the leaves of both trees.
-fn take_both(before: &[Spot], after: &[Spot], found: &mut Found) -> Option<()>
+fn take_both(before: &[BlockPointer], after: &[BlockPointer], found: &mut Found) -> Option<()>
     ensures { OnSome result
         (TakesAll found.old.ranges.items (before.now ++ after.now) found.new.ranges.items) }
 {
@@ -44,8 +44,8 @@ fn take_both(before: &[Spot], after: &[Spot], found: &mut Found) -> Option<()>
 #[cycle(differing)]
 fn compare<R: Rack>(
     level: u8,
-    before: &[Spot],
-    after: &[Spot],
+    before: &[BlockPointer],
+    after: &[BlockPointer],
     found: &mut Found,
     rack: &mut R,
     store: &mut Store,
@@ -74,8 +74,8 @@ fn compare<R: Rack>(
 #[cycle(differing)]
 fn compare_own<R: Rack>(
     level: u8,
-    before: &[Spot],
-    after: &[Spot],
+    before: &[BlockPointer],
+    after: &[BlockPointer],
     found: &mut Found,
     rack: &mut R,
     store: &mut Store,
@@ -115,8 +115,8 @@ fn compare_own<R: Rack>(
 pub fn find_differences<R: Rack>(
     alloc: Global,
     level: u8,
-    before: &[Spot],
-    after: &[Spot],
+    before: &[BlockPointer],
+    after: &[BlockPointer],
     rack: &mut R,
     store: &mut Store,
 ) -> Option<Vec<InodeRange>>

@@ -2,7 +2,7 @@
 
 use crate::inode_range::{InodeRange, put_range};
 use btr_base::Memory;
-use btr_walk::Spot;
+use btr_walk::BlockPointer;
 use std::alloc::Global;
 
 // So many blocks are read, and so many ranges kept, before the trees are given up.
@@ -37,13 +37,13 @@ impl Found {
         Some(())
     }
 
-    /// Takes the inodes that may have items in a leaf at a spot. `None`: there are too many.
-    pub(crate) fn take_leaf(&mut self, spot: &Spot) -> Option<()>
+    /// Takes the inodes that may have items in a leaf at a pointer. `None`: there are too many.
+    pub(crate) fn take_leaf(&mut self, pointer: &BlockPointer) -> Option<()>
         ensures { OnSome result
-            (TakesAll self.old.ranges.items (spot.now ∷ []) self.new.ranges.items) }
+            (TakesAll self.old.ranges.items (pointer.now ∷ []) self.new.ranges.items) }
     {
         self.spend()?;
-        match put_range(&mut self.ranges, InodeRange::of_leaf(spot)) {
+        match put_range(&mut self.ranges, InodeRange::of_leaf(pointer)) {
             Ok(()) => Some(()),
             Err(Memory) => None,
         }

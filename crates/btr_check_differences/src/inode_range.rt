@@ -6,7 +6,7 @@ ghost use Rattle.btr_check_differences.specs.Ranges.{is_range};
 
 use btr_base::{Key, Memory};
 use btr_findings::push;
-use btr_walk::Spot;
+use btr_walk::BlockPointer;
 
 /// Inodes from one number to another, both included.
 #[derive(Clone, Copy, Debug, PartialEq, Eq)]
@@ -41,13 +41,13 @@ impl InodeRange {
     ghost use Rattle.std.specs.Prelude.{◌≡◌};
     ghost use Rattle.btr_check_differences.specs.Ranges.{Covers, Joins, high, low};
 
-    /// The inodes that may have items in a leaf at a spot.
-    pub(crate) fn of_leaf(spot: &Spot) -> InodeRange
-        ensures { Covers spot.now result }
+    /// The inodes that may have items in a leaf at a pointer.
+    pub(crate) fn of_leaf(pointer: &BlockPointer) -> InodeRange
+        ensures { Covers pointer.now result }
     {
         InodeRange {
-            first: first_inode(spot.first),
-            last: last_inode(spot.up),
+            first: first_inode(pointer.first),
+            last: last_inode(pointer.up),
         }
     }
 

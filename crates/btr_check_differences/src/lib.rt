@@ -1,7 +1,7 @@
 //! By which inodes two trees differ that share blocks.
 //!
 //! A snapshot has most of its blocks from the subvolume that it was taken of. `find_differences`
-//! goes down two trees at once, level by level: blocks that stand at one spot in both are passed,
+//! goes down two trees at once, level by level: blocks that stand at one pointer in both are passed,
 //! and only the others are read. What is left are leaves that one tree alone has, and the inodes
 //! of which these may have items. It is promised to the layer above that both trees have the same
 //! items but for those of the inodes in these ranges (`specs/Differing.antt`), so far as reads
@@ -27,5 +27,5 @@ mod touring;
 pub use differing::find_differences;
 pub use inode_range::InodeRange;
 pub use laws::{alike_law, missing_law, tours_law};
-pub use shared::{same_bound, same_spot};
+pub use shared::{same_bound, same_pointer};
 pub use touring::visit_ranges;

@@ -3,7 +3,7 @@ ghost use Rattle.std.specs.Prelude.{◌≡◌, IfSome, IsTrue, MatchBool};
 ghost use Rattle.btr_check_differences.specs.Differing.{IsShared};
 
 use btr_base::Key;
-use btr_walk::Spot;
+use btr_walk::BlockPointer;
 
 /// Where two lists of blocks have the same one.
 #[derive(Clone, Copy)]
@@ -25,8 +25,8 @@ pub fn same_bound(one: Option<Key>, other: Option<Key>) -> bool
     }
 }
 
-/// Whether two blocks stand at the same spot.
-pub fn same_spot(one: &Spot, other: &Spot) -> bool
+/// Whether two blocks stand at the same pointer.
+pub fn same_pointer(one: &BlockPointer, other: &BlockPointer) -> bool
     ensures { IsTrue result → one.now ≡ other.now }
 {
     one.addr == other.addr
@@ -36,15 +36,15 @@ pub fn same_spot(one: &Spot, other: &Spot) -> bool
 }
 
 // Whether a block begins behind another one.
-fn begins_behind(one: &Spot, other: &Spot) -> bool {
+fn begins_behind(one: &BlockPointer, other: &BlockPointer) -> bool {
     match (one.first, other.first) {
         (Some(one), Some(other)) => other.is_before(one),
         (None, _) | (_, None) => false,
     }
 }
 
-/// The first block that stands at the same spot in two lists whose keys ascend.
-pub(crate) fn next_shared(before: &[Spot], after: &[Spot]) -> Option<Shared>
+/// The first block that stands at the same pointer in two lists whose keys ascend.
+pub(crate) fn next_shared(before: &[BlockPointer], after: &[BlockPointer]) -> Option<Shared>
     ensures { IfSome result (IsShared before.now after.now) }
 {
     let mut at = Shared {
@@ -54,7 +54,7 @@ pub(crate) fn next_shared(before: &[Spot], after: &[Spot]) -> Option<Shared>
     while at.before < before.len() && at.after < after.len() {
         let one = &before[at.before];
         let other = &after[at.after];
-        if same_spot(one, other) {
+        if same_pointer(one, other) {
             return Some(at);
         }
         if begins_behind(one, other) {

@@ -40,7 +40,7 @@ fn meet_next<R: Rack, V: Visitor<Memory>>(
     ensures ready { ends.IsTourReady (R.seen rack.new) store.new tour.new }
     ensures reads { OnlyReads (R.seen rack.old) (R.seen rack.new) }
     ensures others { SameLoans (without_leaf store.old tour.old) (without_leaf store.new tour.new) }
-    ensures nears { MetRankFalls tour.old tour.new result }
+    ensures rank_falls { MetRankFalls tour.old tour.new result }
     ensures content { TellsOf store.old (R.seen rack.old) (R.seen rack.new)
         (λ Is B. IsMet V.step Is B store.old store.new tour.old tour.new
         visitor.old visitor.new result) }

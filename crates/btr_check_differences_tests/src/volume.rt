@@ -9,7 +9,7 @@ use btr_chunk::{Chunk, ChunkTable, Stripe};
 use btr_make_blocks::{Block, Body, Form, Items, Tree, bodies};
 use btr_rack::{MemRack, Rack};
 use btr_read::Store;
-use btr_walk::{RootPlace, Spot};
+use btr_walk::{BlockPointer, RootPlace};
 use std::alloc::{AllocError, Global};
 use std::test::Fail;
 
@@ -140,23 +140,23 @@ fn key(inode: u64) -> Key {
 }
 
 /// The nodes below the root, of which the second one stands at an address.
-pub(crate) fn nodes(tree: &Tree, second: u64) -> [Spot; 3] {
+pub(crate) fn nodes(tree: &Tree, second: u64) -> [BlockPointer; 3] {
     let addr = |index: usize| tree.blocks.get(index).map_or(0, |block| block.addr);
     let generation = FORM.generation;
     [
-        Spot {
+        BlockPointer {
             addr: addr(7),
             generation,
             first: Some(key(0)),
             up: Some(key(18)),
         },
-        Spot {
+        BlockPointer {
             addr: second,
             generation,
             first: Some(key(18)),
             up: Some(key(36)),
         },
-        Spot {
+        BlockPointer {
             addr: addr(9),
             generation,
             first: Some(key(36)),

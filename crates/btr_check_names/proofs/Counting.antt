@@ -1,31 +1,32 @@
 -- Sums and tests over lists, and over the parts of them that pass a test.
-use Rattle.std.proofs.Common.{◌≡◌, ℕ, zero, suc, ◌+◌, ◌<◌, Bool, true, false, cond, not, ◌==◌, ◌&&◌, ◌||◌, List, [], ◌∷◌, filter, All, sum_by}
+use Rattle.std.proofs.Common.{◌≡◌, ℕ, zero, suc, ◌+◌, ◌<◌, Bool, true, false, cond, not, ◌==◌, ◌||◌, List, [], ◌∷◌, filter, All, sum_by}
 use Rattle.std.proofs.Common.{refl, sym, ap, ◌∙◌, subst, true≢false, ne_eqb, arith}
 use Rattle.std.proofs.lemmas.List.Elements.{All-head, All-tail, All-weaker, All-from_recursion, recursion_from_All, filter_passes}
 use Rattle.std.proofs.lemmas.List.Filters.{sum_by-filter_both}
 use Rattle.std.proofs.lemmas.List.Sums.{sum_by-cons}
 use Rattle.std.specs.List.{AllByRecursion, list_any}
 
+-- where an "or" fails, two_hold of its sides do
 pub neither : (a b : Bool) → (a || b) ≡ false → (a ≡ false) × (b ≡ false)
 neither true b h = absurd (true≢false h)
 neither false b h = (refl, h)
 
+-- a test whose opposite fails holds
 pub holds_not : (b : Bool) → not b ≡ false → b ≡ true
 holds_not true h = refl
 holds_not false h = absurd (true≢false h)
 
+-- a test whose opposite holds fails
 pub is_not : (b : Bool) → not b ≡ true → b ≡ false
 is_not true h = absurd (true≢false (sym h))
 is_not false h = refl
 
-pub both : (a b : Bool) → (a && b) ≡ true → (a ≡ true) × (b ≡ true)
-both true b h = (refl, h)
-both false b h = absurd (true≢false (sym h))
-
+-- an "or" holds where its right side does
 pub or_right : (a b : Bool) → b ≡ true → (a || b) ≡ true
 or_right true b h = refl
 or_right false b h = h
 
+-- an "or" holds where its left side does
 pub or_left : (a b : Bool) → a ≡ true → (a || b) ≡ true
 or_left a b h = ap (λ k. k || b) h
 
@@ -39,6 +40,7 @@ found_first zero m b c first rest some = or_right b c (rest (omega arith))
 found_first (suc n) m b c first rest some = or_left b c (first (omega arith))
 
 module _ {X : Type 0} where
+  -- where a sum is above 0 and only what passes a test adds to it, something passes the test
   pub found_by : (f : X → ℕ) (t : X → Bool) → ((x : X) → 0 < f x → t x ≡ true) → (xs : List X) → 0 < sum_by f xs → list_any t xs ≡ true
   found_by f t is [] some = absurd (omega arith)
   found_by f t is (x ∷ xs) some =
@@ -51,6 +53,7 @@ module _ {X : Type 0} where
       sum_by-cons f x xs ∙ (λ i. All-head (λ y. f y ≡ g y) x xs all i + sum_same f g xs (All-tail (λ y. f y ≡ g y) x xs all) i)
       ∙ sym (sum_by-cons g x xs)
 
+  -- where each thing adds nothing the sum is 0
   pub sum_none : (f : X → ℕ) (xs : List X) → All (λ x. f x ≡ 0) xs → sum_by f xs ≡ 0
   sum_none f [] all = refl
   sum_none f (x ∷ xs) all =
@@ -61,6 +64,7 @@ module _ {X : Type 0} where
     pub sum_part : (f g : X → ℕ) → ((x : X) → q x ≡ true → f x ≡ g x) → (xs : List X) → sum_by f (filter q xs) ≡ sum_by g (filter q xs)
     sum_part f g is xs = sum_same f g (filter q xs) (All-weaker (λ x. q x ≡ true) (λ x. f x ≡ g x) is (filter q xs) (filter_passes q xs))
 
+    -- where what passes a test adds nothing, the sum over it is 0
     pub sum_nothing : (f : X → ℕ) → ((x : X) → q x ≡ true → f x ≡ 0) → (xs : List X) → sum_by f (filter q xs) ≡ 0
     sum_nothing f is xs = sum_none f (filter q xs) (All-weaker (λ x. q x ≡ true) (λ x. f x ≡ 0) is (filter q xs) (filter_passes q xs))
 
@@ -80,6 +84,7 @@ module _ {X : Type 0} where
         (filter (λ x. not (q x)) xs) (filter_passes (λ x. not (q x)) xs)) in
         omega (arith, sum_by-filter_both q (λ x. not (q x)) (λ x. refl) f xs, rest)
 
+    -- one thing more before the others: where it is left out, the test fails on it
     any_first : (t : X → Bool) (x : X) (xs : List X) (b : Bool) → (b ≡ false → t x ≡ false) → list_any t xs ≡ list_any t (filter q xs)
         → (t x || list_any t xs) ≡ list_any t (cond b (x ∷ filter q xs) (filter q xs))
     any_first t x xs true is rest = ap (λ b. t x || b) rest
@@ -92,6 +97,7 @@ module _ {X : Type 0} where
 
     -- what holds of what passes and of the rest holds of all
     module _ (P : X → Type 0) where
+      -- what holds of the first thing, whether it passes or not, and of those behind it
       first_of : (b : Bool) (x : X) (us vs : List X) → AllByRecursion P (cond b (x ∷ us) us) → AllByRecursion P (cond (not b) (x ∷ vs) vs)
           → P x × (AllByRecursion P us × AllByRecursion P vs)
       first_of true x us vs own other = (own.0, (own.1, other))
@@ -103,6 +109,7 @@ module _ {X : Type 0} where
           let it = first_of (q x) x (filter q xs) (filter (λ y. not (q y)) xs) own other in
           (it.0, all_of xs it.1.0 it.1.1)
 
+      -- what holds of all that passes a test and of all that fails it holds of all
       pub All-both : (xs : List X) → All P (filter q xs) → All P (filter (λ x. not (q x)) xs) → All P xs
       All-both xs own other = All-from_recursion P xs (all_of xs (recursion_from_All P (filter q xs) own)
           (recursion_from_All P (filter (λ x. not (q x)) xs) other))

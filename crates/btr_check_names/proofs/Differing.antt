@@ -15,7 +15,7 @@ use Rattle.btr_check_names.specs.declared.claim.Claim.{Claim}
 use Rattle.btr_check_names.specs.declared.inode_at.InodeAt.{InodeAt}
 use Rattle.btr_check_names.specs.Differences.{DifferenceLaw, compared_of, inode_of_key, items_of, others}
 use Rattle.btr_check_names.specs.Entry.{Entry, NameRef}
-use Rattle.btr_check_names.specs.Halves.{Given, IsBalanced, entry_halves, link_halves, format_at, is_gone_in, index_half, hash_half, asked_half, ref_half}
+use Rattle.btr_check_names.specs.Halves.{ClaimedHalf, IsBalanced, entry_halves, link_halves, format_at, is_gone_in, index_half, hash_half, asked_half, ref_half}
 use Rattle.btr_check_names.specs.Inodes.{is_counted, are_settled}
 use Rattle.btr_check_names.specs.Items.{all_read, entry_with, inode_with, ref_with, ext_ref_with, inodes_in, indexed_in, hashed_in, refs_in, orphans_in}
 use Rattle.btr_check_names.specs.Names.{Names, format_of, is_among, is_unlinked, links_of, names_in, names_size, no_names, under_hash}
@@ -23,7 +23,8 @@ use Rattle.btr_check_names.specs.Pairs.{are_met, entry_claim}
 use Rattle.btr_check_names.specs.Settled.{AreSettled, is_kept}
 use Rattle.btr_check_names.specs.Subvolumes.{leads_to_root}
 use Rattle.btr_check_names.specs.Unpaired.{are_whole, compared, unpaired_of}
-use Rattle.btr_check_names.proofs.Counting.{All-both, All-part, any_own, both, sum_nothing, sum_own, sum_split}
+use Rattle.btr_check_names.proofs.Counting.{All-both, All-part, any_own, sum_nothing, sum_own, sum_split}
+use Rattle.btr_check_names.proofs.Claims.{two_hold}
 use Rattle.btr_check_names.proofs.Halves.{by_hash, by_index, by_link, by_ref, entries_are, entry_times, given, half, IsThis, link_times, links_are, not_given}
 use Rattle.btr_check_names.proofs.Meeting as meeting
 use Rattle.btr_check_names.proofs.MetInodes.{IsKept, all_settled}
@@ -44,13 +45,16 @@ part own names = record {
 
 -- what is said of an inode is said in the part that has it
 module _ (own : ℕ → Bool) (n : ℕ) (is : own n ≡ true) where
+  -- an inode that is set aside isn't this one
   differs : (a : ℕ) → own a ≡ false → a ≡ n → ⊥
   differs a aside same = true≢false (sym is ∙ sym (ap own same) ∙ aside)
 
+  -- a directory is there without links just where the part that has it says so
   gone_part : (inodes : List InodeAt) → is_gone_in inodes n ≡ is_gone_in (filter (λ at. own at.number) inodes) n
   gone_part inodes = any_own (λ at. own at.number) (λ at. (at.number == n) && is_unlinked at)
       (λ at aside. ap (λ b. b && is_unlinked at) (ne_eqb at.number n (differs at.number aside))) inodes
 
+  -- the kind in an inode's mode is the one that the part with it says
   format_part : (inodes : List InodeAt) → format_at inodes n ≡ format_at (filter (λ at. own at.number) inodes) n
   format_part [] = refl
   format_part (at ∷ inodes) = by (own at.number) refl (format_part inodes)
@@ -60,18 +64,22 @@ module _ (own : ℕ → Bool) (n : ℕ) (is : own n ≡ true) where
       by true has rest = ap (λ f. if at.number == n then format_of at.inode else f) rest
       by false aside rest = ap (λ b. if b then format_of at.inode else format_at inodes n) (ne_eqb at.number n (differs at.number aside)) ∙ rest
 
+  -- an inode has as many references as the part with it has of it
   links_part : (refs : List NameRef) → links_of refs n ≡ links_of (filter (λ ref. own ref.inode) refs) n
   links_part refs = sum_own (λ ref. own ref.inode) (λ ref. cond (ref.inode == n) 1 0)
       (λ ref aside. ap (λ b. cond b 1 0) (ne_eqb ref.inode n (differs ref.inode aside))) refs
 
+  -- the names in a directory are as long as the part with it says
   size_part : (indexed : List Entry) → names_size indexed n ≡ names_size (filter (λ entry. own entry.dir) indexed) n
   size_part indexed = sum_own (λ entry. own entry.dir) (λ entry. cond (entry.dir == n) (2 * length entry.name) 0)
       (λ entry aside. ap (λ b. cond b (2 * length entry.name) 0) (ne_eqb entry.dir n (differs entry.dir aside))) indexed
 
+  -- an inode is an orphan just where the part with it says so
   among_part : (orphans : List ℕ) → is_among orphans n ≡ is_among (filter own orphans) n
   among_part orphans = any_own own (λ number. n == number) (λ number aside. ne_eqb n number (λ same. differs number aside (sym same))) orphans
 
 module _ (own : ℕ → Bool) (names : Names) where
+  -- an inode states what there is of it just where it does by its part alone
   kept_part : (at : InodeAt) → own at.number ≡ true → is_kept names at ≡ is_kept (part own names) at
   kept_part at is =
       λ i. is_counted (record { at = at; links = links_part own at.number is names.refs i; names = size_part own at.number is names.indexed i })
@@ -93,6 +101,7 @@ module _ (own : ℕ → Bool) (names : Names) where
               (by_hash k s n (part (others own) names).inodes) (alike own) (alike (others own)) names.hashed,
         )
 
+    -- what the links of a tree give is what those of its parts give
     links_split : link_times k s n names ≡ link_times k s n (part own names) + link_times k s n (part (others own) names)
     links_split =
         let same : (p : ℕ → Bool) (e : Entry) → p e.dir ≡ true → by_link k s n names.inodes e ≡ by_link k s n (part p names).inodes e =
@@ -112,7 +121,7 @@ module _ (own : ℕ → Bool) (names : Names) where
     entries_apart : own k.dir ≡ false → entry_times k s n (part own names) ≡ 0
     entries_apart aside =
         let inodes = (part own names).inodes in
-        let differs : (one : Given) → own one.claim.dir ≡ true → IsThis k s n one → ⊥ =
+        let differs : (one : ClaimedHalf) → own one.claim.dir ≡ true → IsThis k s n one → ⊥ =
         λ one is it. true≢false (sym is ∙ ap (λ (c : Claim). own c.dir) it.claim ∙ aside) in
         λ i. sum_nothing (λ (e : Entry). own e.dir) (by_index k s n inodes)
         (λ e is. not_given k s n (is_gone_in inodes e.dir) (half (entry_claim (under_hash e)) true e.name)
@@ -142,9 +151,11 @@ part_balanced own names balanced k n = by (own k.dir) refl
 -- names that say of all inodes but some what settled ones say of them, where what they say of these is balanced by itself,
 -- and their links with those of the others, the sides exchanged
 module _ (own : ℕ → Bool) (before after : Names) (settled : AreSettled before) (alike : part (others own) before ≡ part (others own) after) where
+  -- what names say of all other inodes
   abbrev rest : Names → Names
   rest names = part (others own) names
 
+  -- the entries after are balanced where those of some inodes are and those of the others were before
   entries : IsBalanced (entry_halves (part own after)) → IsBalanced (entry_halves after)
   entries balanced k n =
       let shared : (s : Bool) → entry_times k s n (rest before) ≡ entry_times k s n (rest after) = λ s. ap (entry_times k s n) alike in
@@ -162,6 +173,7 @@ module _ (own : ℕ → Bool) (before after : Names) (settled : AreSettled befor
         shared false,
       )
 
+  -- the links after are balanced where those of some inodes are, together with those before on the other side
   links : ((k : Claim) (n : List ℕ) → link_times k true n (part own after) + link_times k false n (part own before)
       ≡ link_times k false n (part own after) + link_times k true n (part own before)) → IsBalanced (link_halves after)
   links balanced k n =
@@ -182,6 +194,7 @@ module _ (own : ℕ → Bool) (before after : Names) (settled : AreSettled befor
         links_split own before k false n,
       )
 
+  -- each inode after states what there is of it where each of some inodes does
   inodes : All (λ at. is_kept (part own after) at ≡ true) (part own after).inodes → All (λ at. is_kept after at ≡ true) after.inodes
   inodes ours =
       let kept : Names → InodeAt → Type 0 = λ names at. is_kept names at ≡ true in
@@ -212,6 +225,7 @@ filter_flat h p q all (item ∷ items) =
     by true = refl
     by false = refl
 
+-- what holds of each thing that a function makes holds of all that it makes of a list
 all_mapped : {X Y : Type 0} (P : Y → Type 0) (f : X → Y) → ((x : X) → P (f x)) → (xs : List X) → AllByRecursion P (map f xs)
 all_mapped P f is [] = tt
 all_mapped P f is (x ∷ xs) = (is x, all_mapped P f is xs)
@@ -229,24 +243,28 @@ module _ (own : ℕ → Bool) (key : Key) where
       sym (ap own (ap (λ b. if b then key.offset else key.objectid) (ap (λ k. k == orphan_item) (eqb-true key.kind kind is) ∙ other)))
 
   module _ (body : List ℕ) where
+    -- an inode in an item is one of some just where the item speaks of one of them
     inodes_own : AllByRecursion (λ (at : InodeAt). own at.number ≡ own (inode_of_key key)) (inodes_in key body)
     inodes_own =
         let P : InodeAt → Type 0 = λ at. own at.number ≡ own (inode_of_key key) in
         all_if P (key.kind == inode_item) (map (inode_with key body) (all_read (inode_of body ∷ []))) []
         (λ is. all_mapped P (inode_with key body) (λ at. speaks inode_item refl is) (all_read (inode_of body ∷ []))) tt
 
+    -- an entry at an index is of some directories just where its item speaks of one of them
     indexed_own : AllByRecursion (λ (e : Entry). own e.dir ≡ own (inode_of_key key)) (indexed_in key body)
     indexed_own =
         let P : Entry → Type 0 = λ e. own e.dir ≡ own (inode_of_key key) in
         all_if P (key.kind == dir_index) (map (entry_with key body) (all_read (index_entry_of body ∷ []))) []
         (λ is. all_mapped P (entry_with key body) (λ e. speaks dir_index refl is) (all_read (index_entry_of body ∷ []))) tt
 
+    -- an entry under a hash is of some directories just where its item speaks of one of them
     hashed_own : AllByRecursion (λ (e : Entry). own e.dir ≡ own (inode_of_key key)) (hashed_in key body)
     hashed_own =
         let P : Entry → Type 0 = λ e. own e.dir ≡ own (inode_of_key key) in
         all_if P (key.kind == dir_item) (map (entry_with key body) (all_read (entries_of body))) []
         (λ is. all_mapped P (entry_with key body) (λ e. speaks dir_item refl is) (all_read (entries_of body))) tt
 
+    -- a reference is of some inodes just where its item speaks of one of them
     refs_own : AllByRecursion (λ (r : NameRef). own r.inode ≡ own (inode_of_key key)) (refs_in key body)
     refs_own =
         let P : NameRef → Type 0 = λ r. own r.inode ≡ own (inode_of_key key) in
@@ -256,10 +274,12 @@ module _ (own : ℕ → Bool) (key : Key) where
         (all_if P (key.kind == inode_extref) ext []
         (λ is. all_mapped P (ext_ref_with key body) (λ r. speaks inode_extref refl is) (all_read (ext_refs_of body))) tt)
 
+  -- an orphan is one of some inodes just where its item speaks of one of them
   orphans_own : AllByRecursion (λ n. own n ≡ own (inode_of_key key)) (orphans_in key)
   orphans_own = all_if (λ n. own n ≡ own (inode_of_key key)) (key.kind == orphan_item) (key.offset ∷ []) []
       (λ is. (sym (ap own (ap (λ b. if b then key.offset else key.objectid) is)), tt)) tt
 
+-- what the names of a tree say of some inodes is what the items that speak of these say
 parted : (own : ℕ → Bool) (tree dirid : ℕ) (items : List TreeItem) → part own (names_in tree dirid items) ≡ names_in 0 dirid (items_of own items)
 parted own tree dirid items =
     let q : TreeItem → Bool = λ item. own (inode_of_key item.key) in
@@ -287,15 +307,18 @@ filter_rest {X} t q (x ∷ xs) none = by (q x) (filter q xs) (filter (λ y. not 
     by true us vs rest none = aside (t x) (filter t us) (filter t xs) (filter t vs) none rest
     by false us vs rest none = ap (λ l. cond (t x) (x ∷ l) l) (rest none)
 
+-- where two lists together are empty, each of them is
 both_empty : {X : Type 0} (xs ys : List X) → xs ++ ys ≡ [] → (xs ≡ []) × (ys ≡ [])
 both_empty [] ys h = (refl, h)
 both_empty (x ∷ xs) ys h = absurd (omega (arith, ap length h))
 
 -- a tour of the one tree, then one of the other
 module _ (dirid : ℕ) (ours theirs : List Mark) where
+  -- the names in what a tour met
   abbrev names_of : List Mark → Names
   names_of marks = names_in 0 dirid (items_met marks)
 
+  -- what is kept where the second tour begins, if the first one left its inodes settled
   compared_holds : are_settled (unpaired_of dirid ours).inodes ≡ true
       → Holds (after_tour (unpaired_of dirid ours) (names_of ours)) (compared (unpaired_of dirid ours)) (no_names 0 dirid)
   compared_holds settled =
@@ -312,6 +335,7 @@ module _ (dirid : ℕ) (ours theirs : List Mark) where
             (link_times_then (after_tour u (names_of ours)) (no_names 0 dirid)) (λ k s m. refl) same (h.links (all_settled u.inodes settled).right same);
       }
 
+  -- what is kept after two_hold tours, if the first one left its inodes settled
   both_toured : are_settled (unpaired_of dirid ours).inodes ≡ true
       → Holds (after_tour (unpaired_of dirid ours) (names_of ours)) (compared_of dirid ours theirs) (names_of theirs)
   both_toured settled =
@@ -319,6 +343,7 @@ module _ (dirid : ℕ) (ours theirs : List Mark) where
       subst (Holds old (compared_of dirid ours theirs)) (meeting.names_law 0 dirid theirs)
       (marks_hold old theirs (compared (unpaired_of dirid ours)) (no_names 0 dirid) (compared_holds settled))
 
+-- a tree that shares its items with a settled one, but for those of some inodes, is settled by tours of these alone
 pub difference_law : DifferenceLaw
 difference_law tree other dirid own before after ours theirs settled d =
     let a = names_in tree dirid before in
@@ -326,15 +351,15 @@ difference_law tree other dirid own before after ours theirs settled d =
     let u = unpaired_of dirid ours in
     let v = compared_of dirid ours theirs in
     let h = toured 0 dirid ours in
-    let whole = both (are_settled u.inodes) (are_met u.entries) d.whole in
-    let paired = both (are_whole v) (are_met v.links) d.paired in
+    let whole = two_hold (are_settled u.inodes) (are_met u.entries) d.whole in
+    let paired = two_hold (are_whole v) (are_met v.links) d.paired in
     let old = after_tour u (names_in 0 dirid (items_met ours)) in
     let two = both_toured dirid ours theirs whole.0 in
     let in_ours : names_in 0 dirid (items_met ours) ≡ part own b = ap (names_in 0 dirid) d.ours_met ∙ sym (parted own other dirid after) in
     let in_theirs : names_in 0 dirid (items_met theirs) ≡ part own a = ap (names_in 0 dirid) d.theirs_met ∙ sym (parted own tree dirid before) in
     let alike : part (others own) a ≡ part (others own) b =
     parted (others own) tree dirid before ∙ ap (names_in 0 dirid) d.shared ∙ sym (parted (others own) other dirid after) in
-    let met = links_balanced old v (names_in 0 dirid (items_met theirs)) two (both (are_settled v.inodes) (are_met v.entries) paired.0).0 paired.1 in
+    let met = links_balanced old v (names_in 0 dirid (items_met theirs)) two (two_hold (are_settled v.inodes) (are_met v.entries) paired.0).0 paired.1 in
     let crossed : (k : Claim) (n : List ℕ) → link_times k true n (part own b) + link_times k false n (part own a)
     ≡ link_times k false n (part own b) + link_times k true n (part own a) =
     λ k n. omega (

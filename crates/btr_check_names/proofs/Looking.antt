@@ -37,6 +37,7 @@ or_last false false = refl
 
 -- a set of what a list has, one more at a time: whatever key is put for an element is met where that element is
 module _ {K X : Type 0} (cmp : K → K → Ordering) (is : K → X → Bool) where
+  -- what a set and the rest of a list have together stays the same as the first of the rest is put in the set
   pub set_more : (old new : BTreeSet K) (key : K) (first : X) (rest left : List X) (all : K → Bool)
       → ((q : K) → contains cmp new q ≡ cond (is_at (cmp key) q) true (contains cmp old q)) → left ≡ first ∷ rest
       → ((q : K) → is_eq (cmp key q) ≡ is q first) → ((q : K) → (contains cmp old q || list_any (is q) left) ≡ all q) → (q : K)
@@ -61,9 +62,11 @@ is_eq-then Less b = refl
 is_eq-then Equal b = refl
 is_eq-then Greater b = refl
 
+-- numbers compare as equal just where they are equal
 pub same_number : (x y : ℕ) → is_eq (nat_cmp x y) ≡ (y == x)
 same_number x y = grind (arith, nat_tests)
 
+-- names compare as equal just where their bytes are equal
 same_name : (xs ys : List ℕ) → is_eq (slice_cmp nat_cmp xs ys) ≡ bytes_eq ys xs
 same_name xs ys = (eq_by_cmp_equiv nat_list_cmp_total).symm xs ys ∙ is_eq-slice_cmp ys xs
 
@@ -71,6 +74,7 @@ and_nested : (a b c : Bool) → (a && (b && c)) ≡ ((a && b) && c)
 and_nested true b c = refl
 and_nested false b c = refl
 
+-- the tests on an entry's fields, in the order of a comparison and in that of a look-up
 and_order : (d o l k n : Bool) → (d && (o && (l && (k && n)))) ≡ (o && (((d && l) && k) && n))
 and_order true true true k n = refl
 and_order true true false k n = refl
@@ -78,6 +82,7 @@ and_order true false l k n = refl
 and_order false true l k n = refl
 and_order false false l k n = refl
 
+-- targets compare as equal just where they are the same location
 target-alike : (a b : Target) → is_eq (target_cmp a b) ≡ same_location (location_of b) (location_of a)
 target-alike a b =
     let objectid = same_number a.objectid b.objectid in
@@ -88,6 +93,7 @@ target-alike a b =
     ∙ (λ i. objectid i && (kind i && offset i))
     ∙ and_nested (b.objectid == a.objectid) (b.kind == a.kind) (b.offset == a.offset)
 
+-- entries compare as equal just where they lead to the same by one name and stand at one place
 pub entry-alike : (a b : DirEntry) → is_eq (entry_cmp a b) ≡ is_entry (entry_of b) (entry_of a)
 entry-alike a b =
     let dir = same_number a.dir b.dir in
@@ -106,6 +112,7 @@ entry-alike a b =
     ∙ and_order (b.dir == a.dir) (b.offset == a.offset) (same_location (location_of b.target) (location_of a.target)) (b.kind == a.kind)
     (bytes_eq b.name.now a.name.now)
 
+-- references compare as equal just where they are the same
 pub link-alike : (a b : LinkName) → is_eq (link_cmp a b) ≡ same_ref (ref_of b) (ref_of a)
 link-alike a b =
     let inode = same_number a.inode b.inode in
@@ -120,6 +127,7 @@ link-alike a b =
     ∙ and_nested (b.inode == a.inode) (b.parent == a.parent) ((b.index == a.index) && bytes_eq b.name.now a.name.now)
     ∙ and_nested ((b.inode == a.inode) && (b.parent == a.parent)) (b.index == a.index) (bytes_eq b.name.now a.name.now)
 
+-- modes compare as equal just where the inodes' numbers and their kinds are equal
 pub mode-alike : (a b : ModeAt) → is_eq (mode_cmp a b) ≡ ((b.number == a.number) && (b.format == a.format))
 mode-alike a b =
     let number = same_number a.number b.number in
@@ -130,6 +138,7 @@ mode-alike a b =
 pub asked-first : (entry : Entry) (rest : List Entry) → leads_to_inode entry ≡ true → asked (entry ∷ rest) ≡ ref_to entry ∷ asked rest
 asked-first entry rest leads = ap (λ b. map ref_to (cond b (entry ∷ filter leads_to_inode rest) (filter leads_to_inode rest))) leads
 
+-- names of subvolumes compare as equal just where they are the same
 pub subvolume-alike : (a b : SubvolumeName) → is_eq (name_cmp a b) ≡ same_subvolume (name_of b) (name_of a)
 subvolume-alike a b =
     let parent = same_number a.parent b.parent in

@@ -9,18 +9,23 @@ use Rattle.btr_check_names.specs.Subvolume.{NamedSubvolume}
 use Rattle.btr_check_names.specs.Subvolumes.{Subvolumes, SubvolumesLaw, no_subvolumes, root_refs_in, root_backrefs_in, subvolumes_with, subvolumes_step}
 use Rattle.btr_check_names.specs.Names.{Names, NamesLaw, no_names, names_with, names_step}
 
+-- the inodes in some items
 abbrev inodes_of : List TreeItem → List InodeAt
 inodes_of items = flat_map (λ (item : TreeItem). inodes_in item.key item.body) items
 
+-- the entries at indexes in some items
 abbrev indexed_of : List TreeItem → List Entry
 indexed_of items = flat_map (λ (item : TreeItem). indexed_in item.key item.body) items
 
+-- the entries under hashes in some items
 abbrev hashed_of : List TreeItem → List Entry
 hashed_of items = flat_map (λ (item : TreeItem). hashed_in item.key item.body) items
 
+-- the references in some items
 abbrev refs_of : List TreeItem → List NameRef
 refs_of items = flat_map (λ (item : TreeItem). refs_in item.key item.body) items
 
+-- the orphans in some items
 abbrev orphans_of : List TreeItem → List ℕ
 orphans_of items = flat_map (λ (item : TreeItem). orphans_in item.key) items
 
@@ -36,6 +41,7 @@ joined names items = record {
   orphans = names.orphans ++ orphans_of items;
 }
 
+-- with no items more there is just what was held
 joined_none : (names : Names) → names ≡ joined names []
 joined_none names = λ i. record {
   tree = names.tree;
@@ -47,6 +53,7 @@ joined_none names = λ i. record {
   orphans = (sym (append-nil names.orphans)) i;
 }
 
+-- one item and then some others are held as all of them together
 joined_one : (names : Names) (item : TreeItem) (items : List TreeItem) → joined (names_with names item.key item.body) items ≡ joined names (item ∷ items)
 joined_one names item items = λ i. record {
   tree = names.tree;
@@ -58,6 +65,7 @@ joined_one names item items = λ i. record {
   orphans = append_assoc names.orphans (orphans_in item.key) (orphans_of items) i;
 }
 
+-- a tour adds to what was held what the items that it met hold
 fold_joins : (names : Names) (marks : List Mark) → fold names_step names marks ≡ joined names (items_met marks)
 fold_joins names [] = joined_none names
 fold_joins names (Block place block ∷ marks) = fold_joins names marks
@@ -65,6 +73,7 @@ fold_joins names (Child addr place ∷ marks) = fold_joins names marks
 fold_joins names (Item item ∷ marks) = fold_joins (names_with names item.key item.body) marks ∙ joined_one names item (items_met marks)
 fold_joins names (Left fault ∷ marks) = fold_joins names marks
 
+-- what a tour of a tree leaves is what the items that it met hold
 pub names_law : NamesLaw
 names_law tree dirid marks = fold_joins (no_names tree dirid) marks
 
@@ -72,12 +81,15 @@ names_law tree dirid marks = fold_joins (no_names tree dirid) marks
 abbrev root_refs_of : List TreeItem → List NamedSubvolume
 root_refs_of items = flat_map (λ (item : TreeItem). root_refs_in item.key item.body) items
 
+-- the names in the ROOT_BACKREFs among some items
 abbrev root_backrefs_of : List TreeItem → List NamedSubvolume
 root_backrefs_of items = flat_map (λ (item : TreeItem). root_backrefs_in item.key item.body) items
 
+-- names of subvolumes, and those in some items
 abbrev named : Subvolumes → List TreeItem → Subvolumes
 named names items = record { refs = names.refs ++ root_refs_of items; backrefs = names.backrefs ++ root_backrefs_of items; entries = names.entries }
 
+-- a tour of the root tree adds to the names of subvolumes those in the items that it met
 fold_names : (names : Subvolumes) (marks : List Mark) → fold subvolumes_step names marks ≡ named names (items_met marks)
 fold_names names [] = λ i. record { refs = (sym (append-nil names.refs)) i; backrefs = (sym (append-nil names.backrefs)) i; entries = names.entries }
 fold_names names (Block place block ∷ marks) = fold_names names marks
@@ -91,5 +103,6 @@ fold_names names (Item item ∷ marks) =
     })
 fold_names names (Left fault ∷ marks) = fold_names names marks
 
+-- a tour of the root tree leaves the names of subvolumes in the items that it met
 pub subvolumes_law : SubvolumesLaw
 subvolumes_law marks = fold_names no_subvolumes marks

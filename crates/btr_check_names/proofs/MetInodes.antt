@@ -21,24 +21,31 @@ use Rattle.btr_check_names.specs.Inodes.{with_unlinked, are_settled}
 use Rattle.btr_check_names.specs.Names.{Names, format_of, is_among, is_unlinked, links_of, names_size, orphan_kept}
 use Rattle.btr_check_names.specs.Settled.{counted_in}
 use Rattle.btr_check_names.proofs.Claims.{number_is}
-use Rattle.btr_check_names.proofs.Counting.{both, is_not, or_left, or_right, sum_none}
+use Rattle.btr_check_names.proofs.Counting.{is_not, or_left, or_right, sum_none}
+use Rattle.btr_check_names.proofs.Claims.{two_hold}
+use Rattle.btr_findings.proofs.Adding.{or_none}
 
 -- names with some more of each
 abbrev pub add_inodes : Names → List InodeAt → Names
 add_inodes n more = record n { inodes = n.inodes ++ more }
 
+-- names with some more entries at indexes
 abbrev pub add_indexed : Names → List Entry → Names
 add_indexed n more = record n { indexed = n.indexed ++ more }
 
+-- names with some more entries under hashes
 abbrev pub add_hashed : Names → List Entry → Names
 add_hashed n more = record n { hashed = n.hashed ++ more }
 
+-- names with some more references
 abbrev pub add_refs : Names → List NameRef → Names
 add_refs n more = record n { refs = n.refs ++ more }
 
+-- names without any orphans
 abbrev pub without_orphans : Names → Names
 without_orphans n = record n { orphans = [] }
 
+-- names with some more orphans
 abbrev pub add_orphans : Names → List ℕ → Names
 add_orphans n more = record n { orphans = n.orphans ++ more }
 
@@ -69,6 +76,7 @@ pub record NothingYet (names : Names) : Type 0 where
   pub hashed : names.hashed ≡ []
   pub refs : names.refs ≡ []
 
+-- the names so far, by the last inode, if one came
 abbrev pub LastMet : Option Current → Names → Type 0
 LastMet None names = NothingYet names
 LastMet (Some current) names = IsLast current names
@@ -91,6 +99,7 @@ above_number a b below = ne_eqb b a (λ same. absurd (omega arith))
 below_number : (a b : ℕ) → a < b → (a == b) ≡ false
 below_number a b below = ne_eqb a b (λ same. absurd (omega arith))
 
+-- where all is of inodes below a number, it is so of a higher number too
 below_more : (a b : ℕ) (names : Names) → a ≤ b → AreBelow a names → AreBelow b names
 below_more a b names more below = record {
   indexed = All-weaker (λ (e : Entry). e.dir < a) (λ e. e.dir < b) (λ e h. omega arith) names.indexed below.indexed;
@@ -109,7 +118,7 @@ below_next None names number may nothing =
       refs = subst (All ref) (sym nothing.refs) (All-nil ref);
     }
 below_next (Some current) names number may here =
-    let below = below_from current.at.number number (both (not (nat_le number current.at.number)) (is_counted current) may).0 in
+    let below = below_from current.at.number number (two_hold (not (nat_le number current.at.number)) (is_counted current) may).0 in
     below_more (current.at.number + 1) number names (omega arith) here.none_above
 
 -- an inode comes behind the last one
@@ -132,10 +141,11 @@ inode_comes last at names may here =
           (λ e h. ap (λ b. cond b (2 * length e.name) 0) (below_number e.dir number h)) names.indexed below.indexed));
     }
   where
+    -- the inodes so far have lower numbers than the one that comes, and state what there is of them
     all_before : (o : Option Current) → LastMet o names → may_follow o at.number ≡ true → All (IsBefore at.number names) names.inodes
     all_before None nothing may = subst (All (IsBefore at.number names)) (sym nothing.inodes) (All-nil (IsBefore at.number names))
     all_before (Some current) here may =
-        let two = both (not (nat_le at.number current.at.number)) (is_counted current) may in
+        let two = two_hold (not (nat_le at.number current.at.number)) (is_counted current) may in
         let under = below_from current.at.number at.number two.0 in
         subst (All (IsBefore at.number names)) (sym here.is)
         (All-push (IsBefore at.number names) here.front current.at
@@ -239,13 +249,10 @@ format_last [] at all = ap (λ b. if b then format_of at.inode else 0) (eq-eqb a
 format_last (x ∷ xs) at all =
     ap (λ b. if b then format_of x.inode else format_at (xs ++ at ∷ []) at.number) (below_number x.number at.number all.0) ∙ format_last xs at all.1
 
+-- one more inode behind the others doesn't change the kind in the mode of a lower one
 pub format_before : (inodes : List InodeAt) (at : InodeAt) (n : ℕ) → n < at.number → format_at (inodes ++ at ∷ []) n ≡ format_at inodes n
 format_before [] at n below = ap (λ b. if b then format_of at.inode else 0) (above_number n at.number below)
 format_before (x ∷ xs) at n below = ap (λ f. if x.number == n then format_of x.inode else f) (format_before xs at n below)
-
-or_none : (a : Bool) → (a || false) ≡ a
-or_none true = refl
-or_none false = refl
 
 -- a directory below one more inode is gone where it was
 pub gone_before : (inodes : List InodeAt) (at : InodeAt) (dir : ℕ) → dir < at.number → is_gone_in (inodes ++ at ∷ []) dir ≡ is_gone_in inodes dir
@@ -263,6 +270,7 @@ format_there (Some current) names number is here =
     (λ one. one.number < current.at.number) (λ one h. h.0) here.front here.before) in
     sym ((λ i. format_at (here.is i) (sym (eqb-true current.at.number number is) i)) ∙ format_last here.front current.at below)
 
+-- the last inode is a directory without links just where there is one of its number among all inodes
 pub gone_there : (last : Option Current) (names : Names) (dir : ℕ) → is_last dir last ≡ true → LastMet last names
     → is_gone dir last ≡ is_gone_in names.inodes dir
 gone_there None names dir is nothing = absurd (true≢false (sym is))
@@ -283,6 +291,7 @@ inserted_by Equal x xs k n rest h = h
 inserted_by Greater x xs k n rest (inl it) = inl it
 inserted_by Greater x xs k n rest (inr old) = inr (rest old)
 
+-- a number that is in a list still is after one more was put in
 inserted : (xs : List ℕ) (k n : ℕ) → IsIn xs n → IsIn (insert_key nat_cmp xs k) n
 inserted [] k n h = absurd h
 inserted (x ∷ xs) k n h = inserted_by (nat_cmp k x) x xs k n (inserted xs k n) h
@@ -293,6 +302,7 @@ new_by Less x xs k is rest = inl refl
 new_by Equal x xs k is rest = inl (sym (number_is k x (ap is_eq is)))
 new_by Greater x xs k is rest = inr rest
 
+-- a number that was put in a list is in it
 new_inserted : (xs : List ℕ) (k : ℕ) → IsIn (insert_key nat_cmp xs k) k
 new_inserted [] k = inl refl
 new_inserted (x ∷ xs) k = new_by (nat_cmp k x) x xs k refl (new_inserted xs k)
@@ -309,25 +319,30 @@ removed_by false x xs k n is rest (inr old) = still (rest old)
     still (inl h) = inl (inr h)
     still (inr same) = inr same
 
+-- after a number was taken from a list, one that was in it still is, or it is the one that was taken
 removed : (xs : List ℕ) (k n : ℕ) → IsIn xs n → IsIn (remove_key (is_at (nat_cmp k)) xs) n ⊎ (k ≡ n)
 removed [] k n h = absurd h
 removed (x ∷ xs) k n h = removed_by (is_eq (nat_cmp k x)) x xs k n refl (removed xs k n) h
 
+-- an inode that waits for an orphan item still does as one more comes, with links or without
 unlinked_if : (b : Bool) (at : InodeAt) (unlinked : List ℕ) (n : ℕ) → IsIn unlinked n → IsIn (if b then insert_key nat_cmp unlinked at.number else unlinked) n
 unlinked_if true at unlinked n h = inserted unlinked at.number n h
 unlinked_if false at unlinked n h = h
 
+-- an inode that has links, waits for an orphan item or has one still does as one more comes
 still_kept : (at : InodeAt) (unlinked orphans : List ℕ) (one : InodeAt) → IsKept unlinked orphans one → IsKept (with_unlinked at unlinked) orphans one
 still_kept at unlinked orphans one (inl linked) = inl linked
 still_kept at unlinked orphans one (inr (inl waits)) = inr (inl (unlinked_if (at.inode.nlink == 0) at unlinked one.number waits))
 still_kept at unlinked orphans one (inr (inr named)) = inr (inr named)
 
+-- the inode that comes has links, or waits for an orphan item
 new_if : (b : Bool) (at : InodeAt) (unlinked orphans : List ℕ) → (at.inode.nlink == 0) ≡ b
     → ((at.inode.nlink == 0) ≡ false) ⊎ (IsIn (if b then insert_key nat_cmp unlinked at.number else unlinked) at.number
     ⊎ (list_any (λ number. at.number == number) orphans ≡ true))
 new_if false at unlinked orphans is = inl is
 new_if true at unlinked orphans is = inr (inl (new_inserted unlinked at.number))
 
+-- with one inode more, each has links, or waits for an orphan item, or has one
 pub kept_more : (at : InodeAt) (unlinked orphans : List ℕ) (inodes : List InodeAt) → All (IsKept unlinked orphans) inodes
     → All (IsKept (with_unlinked at unlinked) orphans) (inodes ++ at ∷ [])
 kept_more at unlinked orphans inodes kept =
@@ -343,6 +358,7 @@ waits_or_named number unlinked orphans one (inr same) = inr (inr
     (list_any-append (λ n. one.number == n) orphans (number ∷ []) ∙ or_right (is_among orphans one.number) ((one.number == number) || false)
     (or_left (one.number == number) false (eq-eqb one.number number (sym same)))))
 
+-- an inode that has links, waits for an orphan item or has one still does after an orphan item
 named_kept : (number : ℕ) (unlinked orphans : List ℕ) (one : InodeAt) → IsKept unlinked orphans one
     → IsKept (remove_key (is_at (nat_cmp number)) unlinked) (orphans ++ number ∷ []) one
 named_kept number unlinked orphans one (inl linked) = inl linked
@@ -350,6 +366,7 @@ named_kept number unlinked orphans one (inr (inl waits)) = waits_or_named number
 named_kept number unlinked orphans one (inr (inr named)) =
     inr (inr (list_any-append (λ n. one.number == n) orphans (number ∷ []) ∙ or_left (is_among orphans one.number) ((one.number == number) || false) named))
 
+-- after an orphan item each inode still has links, or waits for an orphan item, or has one
 pub orphan_comes : (number : ℕ) (unlinked orphans : List ℕ) (inodes : List InodeAt) → All (IsKept unlinked orphans) inodes
     → All (IsKept (remove_key (is_at (nat_cmp number)) unlinked) (orphans ++ number ∷ [])) inodes
 orphan_comes number unlinked orphans inodes kept = All-weaker (IsKept unlinked orphans)
@@ -361,14 +378,16 @@ pub record AreSettled (inodes : Inodes) : Type 0 where
   pub counted : last_counted inodes.last ≡ true
   pub none : (number : ℕ) → IsIn inodes.unlinked number → ⊥
 
+-- no number is in a list of length 0
 nothing_in : (xs : List ℕ) (n : ℕ) → (length xs == 0) ≡ true → IsIn xs n → ⊥
 nothing_in [] n empty h = h
 nothing_in (x ∷ xs) n empty h = absurd (true≢false (sym empty ∙ ne_eqb (length (x ∷ xs)) 0 (λ is. absurd (omega arith))))
 
+-- settled inodes: none was wrong, the last one states what was counted, and none waits for an orphan item
 pub all_settled : (inodes : Inodes) → are_settled inodes ≡ true → AreSettled inodes
 all_settled inodes h =
-    let one = both (not inodes.is_wrong && (length inodes.unlinked == 0)) (last_counted inodes.last) h in
-    let two = both (not inodes.is_wrong) (length inodes.unlinked == 0) one.0 in
+    let one = two_hold (not inodes.is_wrong && (length inodes.unlinked == 0)) (last_counted inodes.last) h in
+    let two = two_hold (not inodes.is_wrong) (length inodes.unlinked == 0) one.0 in
     record { right = is_not inodes.is_wrong two.0; counted = one.1; none = λ n is. nothing_in inodes.unlinked n two.1 is }
 
 -- where none waits for an orphan item, each inode has links or one

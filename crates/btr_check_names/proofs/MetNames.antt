@@ -18,7 +18,8 @@ use Rattle.btr_check_names.specs.Settled.{AreSettled, is_kept}
 use Rattle.btr_check_names.specs.Subvolumes.{leads_to_root}
 use Rattle.btr_check_names.specs.Unpaired.{nothing_unpaired, with_inode, with_indexed, with_hashed, with_ref, with_orphan, unpaired_with, unpaired_step}
 use Rattle.btr_check_names.specs.Unpaired.{are_paired, are_whole, unpaired_of, UnpairedLaw}
-use Rattle.btr_check_names.proofs.Counting.{both, holds_not, neither, sum_same}
+use Rattle.btr_check_names.proofs.Counting.{holds_not, neither, sum_same}
+use Rattle.btr_check_names.proofs.Claims.{two_hold}
 use Rattle.btr_check_names.proofs.Halves.{given, given_sided, side, by_index, by_hash, by_link, by_ref, entry_times, link_times, entries_are, links_are}
 use Rattle.btr_check_names.proofs.Meeting as meeting
 use Rattle.btr_check_names.proofs.MetInodes.{add_inodes, add_indexed, add_hashed, add_refs, add_orphans, without_orphans, AreBelow, IsKept, LastMet}
@@ -27,6 +28,7 @@ use Rattle.btr_check_names.proofs.MetInodes.{gone_there, kept_more, orphan_comes
 use Rattle.btr_check_names.proofs.Owing.{Owes, balanced, met_all, owes_more, owes_nothing, same_before}
 use Rattle.btr_check_names.proofs.Settling.{settled_law}
 
+-- how often the entries of some names give a half
 abbrev pub entries_of : Names → Claim → Bool → List ℕ → ℕ
 entries_of names k s n = entry_times k s n names
 
@@ -53,9 +55,11 @@ pub record Holds (old : Before) (u : Unpaired) (names : Names) : Type 0 where
 
 -- with one more inode the names so far give what they gave
 module _ (k : Claim) (s : Bool) (m : List ℕ) (n : Names) (at : InodeAt) (below : AreBelow at.number (without_orphans n)) where
+  -- the inodes so far, and one more
   abbrev more : List InodeAt
   more = n.inodes ++ at ∷ []
 
+  -- the entries so far give a half as often with one more inode
   entries_before : entry_times k s m n ≡ entry_times k s m (add_inodes n (at ∷ []))
   entries_before = λ i.
       sum_same (by_index k s m n.inodes) (by_index k s m more) n.indexed (All-weaker (λ (e : Entry). e.dir < at.number)
@@ -65,6 +69,7 @@ module _ (k : Claim) (s : Bool) (m : List ℕ) (n : Names) (at : InodeAt) (below
       (λ e. by_hash k s m n.inodes e ≡ by_hash k s m more e)
       (λ e h. ap (λ gone. given k s m (hash_half gone e)) (sym (gone_before n.inodes at e.dir h))) n.hashed below.hashed) i
 
+  -- the links so far give a half as often with one more inode
   links_before : link_times k s m n ≡ link_times k s m (add_inodes n (at ∷ []))
   links_before = λ i.
       sum_same (by_link k s m n.inodes) (by_link k s m more) n.indexed (All-weaker (λ (e : Entry). e.dir < at.number)
@@ -76,13 +81,16 @@ module _ (k : Claim) (s : Bool) (m : List ℕ) (n : Names) (at : InodeAt) (below
 
 -- an item of the last inode comes
 module _ (u : Unpaired) (number : ℕ) (right : (u.inodes.is_wrong || not (is_last number u.inodes.last)) ≡ false) where
+  -- no inode was wrong before
   before : u.inodes.is_wrong ≡ false
   before = (neither u.inodes.is_wrong (not (is_last number u.inodes.last)) right).0
 
+  -- the item is of the last inode
   of_last : is_last number u.inodes.last ≡ true
   of_last = holds_not (is_last number u.inodes.last) (neither u.inodes.is_wrong (not (is_last number u.inodes.last)) right).1
 
 module _ (old : Before) (u : Unpaired) (n : Names) (h : Holds old u n) where
+  -- what is kept is of the names with one more inode
   inode_holds : (at : InodeAt) → Holds old (with_inode u at) (add_inodes n (at ∷ []))
   inode_holds at =
       let follows : (u.inodes.is_wrong || not (may_follow u.inodes.last at.number)) ≡ false → may_follow u.inodes.last at.number ≡ true =
@@ -108,6 +116,7 @@ module _ (old : Before) (u : Unpaired) (n : Names) (h : Holds old u n) where
             );
       }
 
+  -- what is kept is of the names with one more entry at an index
   indexed_holds : (entry : Entry) → Holds old (with_indexed u entry) (add_indexed n (entry ∷ []))
   indexed_holds entry =
       let gone : (right : (u.inodes.is_wrong || not (is_last entry.dir u.inodes.last)) ≡ false)
@@ -137,6 +146,7 @@ module _ (old : Before) (u : Unpaired) (n : Names) (h : Holds old u n) where
             same (h.links (before u entry.dir right) (same_before u.links (sided u.is_turned ask) same));
       }
 
+  -- what is kept is of the names with one more entry under a hash
   hashed_holds : (entry : Entry) → Holds old (with_hashed u entry) (add_hashed n (entry ∷ []))
   hashed_holds entry =
       let half = hash_half (u.is_turned || is_gone entry.dir u.inodes.last) entry in
@@ -156,6 +166,7 @@ module _ (old : Before) (u : Unpaired) (n : Names) (h : Holds old u n) where
         links = λ right same. h.links (before u entry.dir right) same;
       }
 
+  -- what is kept is of the names with one more reference
   ref_holds : (ref : NameRef) → Holds old (with_ref u ref) (add_refs n (ref ∷ []))
   ref_holds ref =
       let half = ref_half u.dirid (last_format u.inodes.last) ref in
@@ -175,6 +186,7 @@ module _ (old : Before) (u : Unpaired) (n : Names) (h : Holds old u n) where
             same (h.links (before u ref.inode right) (same_before u.links (sided u.is_turned half) same));
       }
 
+  -- what is kept is of the names with one more orphan
   orphan_holds : (number : ℕ) → Holds old (with_orphan u number) (add_orphans n (number ∷ []))
   orphan_holds number = record {
     dirid = h.dirid;
@@ -190,10 +202,12 @@ module _ (old : Before) (u : Unpaired) (n : Names) (h : Holds old u n) where
 module _ {X : Type 0} (old : Before) (step : Unpaired → X → Unpaired) (add : Names → List X → Names) (none : (n : Names) → add n [] ≡ n)
     (more : (n : Names) (x : X) (xs : List X) → add (add n (x ∷ [])) xs ≡ add n (x ∷ xs))
     (one : (u : Unpaired) (n : Names) → Holds old u n → (x : X) → Holds old (step u x) (add n (x ∷ []))) where
+  -- what is kept is of the names with some more things, where it is so with each one
   some_hold : (xs : List X) (u : Unpaired) (n : Names) → Holds old u n → Holds old (fold step u xs) (add n xs)
   some_hold [] u n h = subst (Holds old u) (sym (none n)) h
   some_hold (x ∷ xs) u n h = subst (Holds old (fold step (step u x) xs)) (more n x xs) (some_hold xs (step u x) (add n (x ∷ [])) (one u n h x))
 
+-- what is kept after an item is of the names with those in the item
 item_holds : (old : Before) (u : Unpaired) (n : Names) (key : Key) (body : List ℕ) → Holds old u n
     → Holds old (unpaired_with u key body) (names_with n key body)
 item_holds old u n key body h =
@@ -226,6 +240,7 @@ item_holds old u n key body h =
     (λ m. ap (λ l. record m { orphans = l }) (append-nil m.orphans)) (λ m x xs. ap (λ l. record m { orphans = l }) (append_assoc m.orphans (x ∷ []) xs))
     (orphan_holds old) e u4 n4 h4
 
+-- what is kept after all that a tour meets is of the names with those that it met
 pub marks_hold : (old : Before) (marks : List Mark) (u : Unpaired) (n : Names) → Holds old u n
     → Holds old (fold unpaired_step u marks) (fold names_step n marks)
 marks_hold old [] u n h = h
@@ -243,6 +258,7 @@ nothing = record { is_turned = false; links = λ k s n. 0; roots = [] }
 abbrev pub after_tour : Unpaired → Names → Before
 after_tour u names = record { is_turned = true; links = link_times_then nothing names; roots = u.subvolumes }
 
+-- what is kept before any item is of no names
 nothing_holds : (tree dirid : ℕ) → Holds nothing (nothing_unpaired dirid) (no_names tree dirid)
 nothing_holds tree dirid = record {
   dirid = refl;
@@ -261,28 +277,32 @@ toured tree dirid marks =
     (marks_hold nothing marks (nothing_unpaired dirid) (no_names tree dirid) (nothing_holds tree dirid))
 
 module _ (old : Before) (u : Unpaired) (names : Names) (h : Holds old u names) (settled : are_settled u.inodes ≡ true) where
+  -- where the inodes are settled, each states what there is of it, and has links or is an orphan
   pub inodes_kept : All (λ at. is_kept names at ≡ true) names.inodes
   inodes_kept =
       let inodes = all_settled u.inodes settled in
       let counted = all_counted u.inodes.last (without_orphans names) inodes.counted (h.last inodes.right) in
       λ i d below j. counted i d below j && kept_orphan u.inodes.unlinked names.orphans (get_or names.inodes i d) inodes.none (h.kept i d below) j
 
+  -- of a tree whose sides aren't exchanged the entries are balanced where all have met their counterparts
   pub entries_balanced : old.is_turned ≡ false → are_met u.entries ≡ true → IsBalanced (entry_halves names)
   entries_balanced straight met k m =
       let entries = met_all u.entries met in
       let owes = h.entries straight (all_settled u.inodes settled).right entries.same in
       entries_are k true m names ∙ balanced u.entries (entries_of names) entries owes k m ∙ sym (entries_are k false m names)
 
+  -- where all links are met, those before and those of these names together are balanced
   pub links_balanced : are_met u.links ≡ true → (k : Claim) (m : List ℕ) → link_times_then old names k true m ≡ link_times_then old names k false m
   links_balanced met =
       let links = met_all u.links met in
       balanced u.links (link_times_then old names) links (h.links (all_settled u.inodes settled).right links.same)
 
 module _ (u : Unpaired) (names : Names) (h : Holds nothing u names) where
+  -- names that are all paired are settled
   all_paired : are_paired u ≡ true → AreSettled names
   all_paired paired =
-      let one = both (are_whole u) (are_met u.links) paired in
-      let two = both (are_settled u.inodes) (are_met u.entries) one.0 in
+      let one = two_hold (are_whole u) (are_met u.links) paired in
+      let two = two_hold (are_settled u.inodes) (are_met u.entries) one.0 in
       let links = links_balanced nothing u names h two.0 one.1 in
       record {
         entries = entries_balanced nothing u names h two.0 refl two.1;
@@ -290,6 +310,7 @@ module _ (u : Unpaired) (names : Names) (h : Holds nothing u names) where
         inodes = inodes_kept nothing u names h two.0;
       }
 
+-- where a tour leaves all names paired they are settled, and nothing is wrong with them
 pub unpaired_law : UnpairedLaw
 unpaired_law tree dirid marks =
     let u = unpaired_of dirid marks in

@@ -5,10 +5,11 @@ use Rattle.std.specs.FinMap.{FinMap, empty_of_len, get, get-empty, get-insert, g
 use Rattle.std.specs.Ordering.{is_eq}
 use Rattle.std.specs.Str.{bytes_eq}
 use Rattle.btr_check_names.specs.declared.claim.Claim.{Claim}
-use Rattle.btr_check_names.specs.Halves.{Given, meets}
+use Rattle.btr_check_names.specs.Halves.{ClaimedHalf, meets}
 use Rattle.btr_check_names.specs.Pairs.{Half, Pairs, no_pairs, claim_cmp, fits, met_left, met_fits, waiting_at, are_met}
 use Rattle.btr_check_names.proofs.Claims.{claims_total, same_claim, same_names}
-use Rattle.btr_check_names.proofs.Counting.{both, holds_not, is_not, neither}
+use Rattle.btr_check_names.proofs.Counting.{holds_not, is_not, neither}
+use Rattle.btr_check_names.proofs.Claims.{two_hold}
 use Rattle.btr_check_names.proofs.Halves.{given}
 
 -- what waits counts once where it is this half
@@ -31,6 +32,7 @@ abbrev left_of : Option Half → Half → Option Half
 left_of None half = Some half
 left_of (Some other) half = None
 
+-- a side that agrees with the opposite of another is that opposite
 is_other : (a b : Bool) → cond a (not b) b ≡ true → a ≡ not b
 is_other true true h = absurd (true≢false (sym h))
 is_other true false h = refl
@@ -40,16 +42,18 @@ is_other false false h = absurd (true≢false (sym h))
 -- what fits is the other half
 fits_other : (h : Half) (s : Bool) (n : List ℕ) → fits h s n ≡ true → h ≡ record { is_first = not s; name = n }
 fits_other h s n fit =
-    let two = both (cond h.is_first (not s) s) (bytes_eq h.name n) fit in
+    let two = two_hold (cond h.is_first (not s) s) (bytes_eq h.name n) fit in
     λ i. record { is_first = is_other h.is_first s two.0 i; name = same_names h.name n two.1 i }
 
 -- one half more is balanced by what waits then: at its claim
 module _ (m n : List ℕ) (t t' f f' : ℕ) where
+  -- where nothing waited, the half that came waits, and all is balanced
   alone : (s : Bool) → t' ≡ t + cond (cond s true false && bytes_eq m n) 1 0 → f' ≡ f + cond (cond s false true && bytes_eq m n) 1 0 → t + 0 ≡ f + 0
       → t' + waits_as false n (Some (record { is_first = s; name = m })) ≡ f' + waits_as true n (Some (record { is_first = s; name = m }))
   alone true one two before = omega (arith, one, two, before)
   alone false one two before = omega (arith, one, two, before)
 
+  -- where the other half waited, nothing waits any more, and all is balanced
   other : (s : Bool) → t' ≡ t + cond (cond s true false && bytes_eq m n) 1 0 → f' ≡ f + cond (cond s false true && bytes_eq m n) 1 0
       → t + waits_as false n (Some (record { is_first = not s; name = m })) ≡ f + waits_as true n (Some (record { is_first = not s; name = m }))
       → t' + 0 ≡ f' + 0
@@ -75,12 +79,12 @@ left_at waiting None k q s m = get-insert claims_total waiting k (record { is_fi
 left_at waiting (Some h) k q s m = get-remove claims_total waiting k q
 
 -- where names don't differ after a half, they didn't before
-pub same_before : (pairs : Pairs) (o : Option Given) → (meets pairs o).differ ≡ false → pairs.differ ≡ false
+pub same_before : (pairs : Pairs) (o : Option ClaimedHalf) → (meets pairs o).differ ≡ false → pairs.differ ≡ false
 same_before pairs None same = same
 same_before pairs (Some g) same = (neither pairs.differ (not (met_fits (waiting_at pairs.waiting g.claim) g.is_first g.name)) same).0
 
 -- a half more, if there is one
-pub owes_more : (pairs : Pairs) (o : Option Given) (old new : Claim → Bool → List ℕ → ℕ)
+pub owes_more : (pairs : Pairs) (o : Option ClaimedHalf) (old new : Claim → Bool → List ℕ → ℕ)
     → ((k : Claim) (s : Bool) (n : List ℕ) → new k s n ≡ old k s n + given k s n o) → (meets pairs o).differ ≡ false → Owes pairs old → Owes (meets pairs o) new
 owes_more pairs None old new more same owes k n = omega (arith, more k true n, more k false n, owes k n)
 owes_more pairs (Some g) old new more same owes k n =
@@ -95,9 +99,10 @@ pub record AreMet (pairs : Pairs) : Type 0 where
   pub same : pairs.differ ≡ false
   pub none : (k : Claim) → get pairs.waiting k ≡ None
 
+-- where pairs are met, no names differ, and nothing waits at any claim
 pub met_all : (pairs : Pairs) → are_met pairs ≡ true → AreMet pairs
 met_all pairs h =
-    let two = both (not pairs.differ) (len pairs.waiting == 0) h in
+    let two = two_hold (not pairs.differ) (len pairs.waiting == 0) h in
     record {
       same = is_not pairs.differ two.0;
       none = λ k. ap (λ (l : FinMap claim_cmp Half). get l k) (empty_of_len pairs.waiting (eqb-true (len pairs.waiting) 0 two.1)) ∙ get-empty claim_cmp k;

@@ -21,6 +21,7 @@ name_last names name place at len =
     ∙ take_all ((length names + place.len) - length names) name (omega arith)
 
 module _ {R X : Type 0} (place : R → NamePlace) (make : R → List ℕ → X) where
+  -- what a row says, with its name from the buffer
   abbrev row_shown : List ℕ → R → X
   row_shown names row = make row (name_in names (place row))
 

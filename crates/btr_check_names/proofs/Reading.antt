@@ -21,6 +21,7 @@ module _ {P X : Type 0} (make : P → X) where
 
 -- the same, where each part that was read makes one step of a state
 module _ {P X S : Type 0} (make : P → X) (step : S → X → S) where
+  -- a part that was read makes a step, before those of the rest
   pub step_more : (old new all : S) (parts rest : List (Result P ItemFault)) (read : Result P ItemFault) (part : P) → parts ≡ read ∷ rest → read
       ≡ Ok part → new ≡ step old (make part)
       → fold step old (map make (all_read parts)) ≡ all → fold step new (map make (all_read rest)) ≡ all
@@ -28,6 +29,7 @@ module _ {P X S : Type 0} (make : P → X) (step : S → X → S) where
       ap (λ s. fold step s (map make (all_read rest))) made ∙ ap (λ r. fold step old (map make (all_read (r ∷ rest)))) (sym is)
       ∙ ap (λ l. fold step old (map make (all_read l))) (sym first) ∙ before
 
+  -- a part that is broken makes no step
   pub step_left_out : (old all : S) (parts rest : List (Result P ItemFault)) (read : Result P ItemFault) (fault : ItemFault) → parts ≡ read ∷ rest
       → read ≡ Err fault
       → fold step old (map make (all_read parts)) ≡ all → fold step old (map make (all_read rest)) ≡ all

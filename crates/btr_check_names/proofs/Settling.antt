@@ -20,7 +20,8 @@ use Rattle.btr_check_names.specs.Names.{removed_dirs, same_ref, asked, fits_mode
 use Rattle.btr_check_names.specs.Pairs.{entry_claim, link_claim, ref_claim}
 use Rattle.btr_check_names.specs.Settled.{AreSettled, SettledLaw, counted_in, is_kept}
 use Rattle.btr_check_names.proofs.Claims.{name_itself}
-use Rattle.btr_check_names.proofs.Counting.{both, found_by, holds_not, neither, or_left, or_right, sum_none}
+use Rattle.btr_check_names.proofs.Counting.{found_by, holds_not, neither, or_left, or_right, sum_none}
+use Rattle.btr_check_names.proofs.Claims.{two_hold}
 use Rattle.btr_check_names.proofs.Halves.{by_hash, by_index, by_link, by_ref, entries_are, gives_it, half, is_given, links_are, not_given}
 
 itself : (x : ℕ) → (x == x) ≡ true
@@ -47,9 +48,11 @@ module _ {X : Type 0} (kept : X → Bool) (finding : X → Finding) where
   nothing_by [] all = refl
   nothing_by (x ∷ xs) all = ap (λ b. cons_option (unless b (finding x)) (filter_map (λ y. unless (kept y) (finding y)) xs)) all.0 ∙ nothing_by xs all.1
 
+  -- there are no findings where the rule is kept for all of some things
   none_found : (xs : List X) → All (λ x. kept x ≡ true) xs → filter_map (λ x. unless (kept x) (finding x)) xs ≡ []
   none_found xs all = nothing_by xs (recursion_from_All (λ x. kept x ≡ true) xs all)
 
+-- a directory without links is named by an orphan item too, where each inode without links is
 removed_if : (directory unlinked named : Bool) → (not unlinked || named) ≡ true → (directory && unlinked) ≡ true → ((directory && unlinked) && named) ≡ true
 removed_if true true named kept is = kept
 removed_if true false named kept is = absurd (true≢false (sym is))
@@ -62,10 +65,10 @@ gone_first : (orphans : List ℕ) (at : InodeAt) (inodes : List InodeAt) (dir : 
     → is_among (map (λ (one : InodeAt). one.number) (cond removed (at ∷ filter (is_removed orphans) inodes) (filter (is_removed orphans) inodes))) dir ≡ true
 gone_first orphans at inodes dir true true it is kept rest gone =
     or_left (dir == at.number) (is_among (removed_dirs orphans inodes) dir)
-    (eq-eqb dir at.number (sym (eqb-true at.number dir (both (at.number == dir) (is_unlinked at) it).0)))
+    (eq-eqb dir at.number (sym (eqb-true at.number dir (two_hold (at.number == dir) (is_unlinked at) it).0)))
 gone_first orphans at inodes dir true false it is kept rest gone =
     absurd (true≢false (sym (removed_if (format_of at.inode == 0o040000) (at.inode.nlink == 0) (is_among orphans at.number) kept
-    (both (at.number == dir) (is_unlinked at) it).1) ∙ is))
+    (two_hold (at.number == dir) (is_unlinked at) it).1) ∙ is))
 gone_first orphans at inodes dir false true it is kept rest gone = or_right (dir == at.number) (is_among (removed_dirs orphans inodes) dir) (rest gone)
 gone_first orphans at inodes dir false false it is kept rest gone = rest gone
 
@@ -91,6 +94,7 @@ some_mode kind = by (kind == 1) (kind == 2) (kind == 3) (kind == 4) (kind == 5) 
     by false false false false false true h = absurd (omega arith)
     by false false false false false false h = absurd (omega arith)
 
+-- where the inode that an entry leads to has the mode of the entry's kind, one that fits the entry is there
 fits_there : (e : Entry) (inodes : List InodeAt) → mode_of_kind e.kind ≡ format_at inodes e.location.objectid → list_any (fits_mode e) inodes ≡ true
 fits_there e [] is = absurd (some_mode e.kind is)
 fits_there e (at ∷ inodes) is = by (at.number == e.location.objectid) refl (fits_there e inodes) is
@@ -110,6 +114,7 @@ any_map : {X Y : Type 0} (f : X → Y) (t : Y → Bool) (xs : List X) → list_a
 any_map f t [] = refl
 any_map f t (x ∷ xs) = ap (λ b. t (f x) || b) (any_map f t xs)
 
+-- a test on the references that some entries ask for is one on the entries that lead to inodes
 any_asked : (t : NameRef → Bool) (xs : List Entry) → list_any (λ (e : Entry). leads_to_inode e && t (ref_to e)) xs ≡ list_any t (asked xs)
 any_asked t [] = refl
 any_asked t (e ∷ xs) = by (leads_to_inode e) (any_asked t xs)
@@ -125,10 +130,12 @@ both_of true true rest all two h = (refl, refl)
 both_of true false rest all two h = (refl, (two h).1)
 both_of false c rest all two h = two h
 
+-- where something passes two tests, the second the same for all, something passes the first, and the second holds
 any_both : {X : Type 0} (t : X → Bool) (c : Bool) (xs : List X) → list_any (λ x. t x && c) xs ≡ true → (list_any t xs ≡ true) × (c ≡ true)
 any_both t c [] h = absurd (true≢false (sym h))
 any_both t c (x ∷ xs) h = both_of (t x) c (list_any (λ y. t y && c) xs) (list_any t xs) (any_both t c xs) h
 
+-- a directory without links or of the right size is being removed or of the right size, where each inode without links is an orphan
 sized : (directory unlinked named fits : Bool) → (not unlinked || named) ≡ true → ((directory && unlinked) || fits) ≡ true
     → (((directory && unlinked) && named) || fits) ≡ true
 sized true true named fits kept h = or_left named fits kept
@@ -149,6 +156,7 @@ module _ (names : Names) where
         sum_none (by_index k false n names.inodes) names.indexed (λ i d below. not_given k false n _ _ (λ is. true≢false is.side)),
       )
 
+  -- entries that ask for references are as many as the references, at each claim and name
   pub as_referred : IsBalanced (link_halves names) → (k : Claim) (n : List ℕ)
       → sum_by (by_link k true n names.inodes) names.indexed ≡ sum_by (by_ref k false n names.dirid names.inodes) names.refs
   as_referred balanced k n =
@@ -167,11 +175,13 @@ module _ (names : Names) where
       let it = (is_given (entry_claim a) false a.name (is_gone_in names.inodes x.dir) (half (entry_claim x) false x.name) some).0 in
       entry_by a x it.claim it.name
 
+  -- an entry at an index that gives what an entry asks for is that one, under its name's hash
   index_stands : (a x : Entry) → 0 < by_index (entry_claim a) true a.name names.inodes x → is_entry a (under_hash x) ≡ true
   index_stands a x some =
       let it = (is_given (entry_claim a) true a.name (is_gone_in names.inodes x.dir) (half (entry_claim (under_hash x)) true x.name) some).0 in
       entry_by a (under_hash x) it.claim it.name
 
+  -- an entry that gives what a reference asks for leads to an inode, by that reference
   link_stands : (f : ℕ) (r : NameRef) (e : Entry) → 0 < by_link (ref_claim f r) true r.name names.inodes e → (leads_to_inode e && same_ref r (ref_to e)) ≡ true
   link_stands f r e some =
       let it = is_given (ref_claim f r) true r.name (is_gone_in names.inodes e.dir || not (leads_to_inode e)) (half (link_claim e) true e.name) some in
@@ -189,15 +199,18 @@ module _ (names : Names) where
       λ i. ref_by (ref_to e) r (mode_of_kind e.kind) format it.claim it.name i && mode i
 
 module _ (names : Names) (settled : AreSettled names) where
+  -- the directories that are being removed
   abbrev removed : List ℕ
   removed = removed_dirs names.orphans names.inodes
 
+  -- a directory of a number is there, and has no links
   abbrev gone : ℕ → Bool
   gone dir = is_gone_in names.inodes dir
 
+  -- each inode has links, or is an orphan
   orphans : All (λ at. orphan_kept names.orphans at ≡ true) names.inodes
   orphans = All-weaker (λ at. is_kept names at ≡ true) (λ at. orphan_kept names.orphans at ≡ true)
-      (λ at h. (both (is_counted (counted_in names at)) (orphan_kept names.orphans at) h).1) names.inodes settled.inodes
+      (λ at h. (two_hold (is_counted (counted_in names at)) (orphan_kept names.orphans at) h).1) names.inodes settled.inodes
 
   -- a rule that speaks of entries but for those of directories that are being removed
   unless_gone : (dir : ℕ) (b kept : Bool) → gone dir ≡ b → (b ≡ false → kept ≡ true) → (is_among removed dir || kept) ≡ true
@@ -206,6 +219,7 @@ module _ (names : Names) (settled : AreSettled names) where
       (gone_removed names.orphans names.inodes dir (recursion_from_All (λ at. orphan_kept names.orphans at ≡ true) names.inodes orphans) is)
   unless_gone dir false kept is h = or_right (is_among removed dir) kept (h refl)
 
+  -- each entry at an index has one under its name's hash, unless its directory is being removed
   item_there : All (λ e. (is_among removed e.dir || list_any (is_entry (under_hash e)) names.hashed) ≡ true) names.indexed
   item_there i d below =
       let e = get_or names.indexed i d in
@@ -219,6 +233,7 @@ module _ (names : Names) (settled : AreSettled names) where
         as_hashed names settled.entries k e.name,
       )))
 
+  -- each entry under a hash has one at an index, unless its directory is being removed
   index_there : All (λ e. (is_among removed e.dir || list_any (is_entry e) (map under_hash names.indexed)) ≡ true) names.hashed
   index_there i d below =
       let e = get_or names.hashed i d in
@@ -252,16 +267,19 @@ module _ (names : Names) (settled : AreSettled names) where
         as_referred names settled.links k e.name,
       )))
 
+  -- the inode that an entry leads to has its reference, unless the entry's directory is being removed
   ref_there : All (λ e. (is_among removed e.dir || ref_kept names.refs e) ≡ true) names.indexed
   ref_there i d below =
       let e = get_or names.indexed i d in
       unless_gone e.dir (gone e.dir) (ref_kept names.refs e) refl (λ stays. (asked_there i d below (leads_to_inode e) refl stays).0)
 
+  -- the inode that an entry leads to is there and of its kind, unless the entry's directory is being removed
   mode_there : All (λ e. (is_among removed e.dir || mode_kept names.inodes e) ≡ true) names.indexed
   mode_there i d below =
       let e = get_or names.indexed i d in
       unless_gone e.dir (gone e.dir) (mode_kept names.inodes e) refl (λ stays. (asked_there i d below (leads_to_inode e) refl stays).1)
 
+  -- each reference has its entry, but for that of the first directory to itself
   entry_there : All (λ r. (is_free names.dirid r || list_any (same_ref r) (asked names.indexed)) ≡ true) names.refs
   entry_there i d below = by (is_free names.dirid (get_or names.refs i d)) refl
     where
@@ -285,22 +303,26 @@ module _ (names : Names) (settled : AreSettled names) where
   abbrev Counted : InodeAt → Type 0
   Counted at = (has_links at (links_of names.refs at.number) && (is_unlinked at || has_size at (names_size names.indexed at.number))) ≡ true
 
+  -- each inode is counted so
   counted : All Counted names.inodes
   counted = All-weaker (λ at. is_kept names at ≡ true) Counted
-      (λ at h. (both (is_counted (counted_in names at)) (orphan_kept names.orphans at) h).0) names.inodes settled.inodes
+      (λ at h. (two_hold (is_counted (counted_in names at)) (orphan_kept names.orphans at) h).0) names.inodes settled.inodes
 
+  -- each inode states how many references it has
   links_there : All (λ at. has_links at (links_of names.refs at.number) ≡ true) names.inodes
   links_there = All-weaker Counted (λ at. has_links at (links_of names.refs at.number) ≡ true)
-      (λ at h. (both (has_links at (links_of names.refs at.number)) (is_unlinked at || has_size at (names_size names.indexed at.number)) h).0)
+      (λ at h. (two_hold (has_links at (links_of names.refs at.number)) (is_unlinked at || has_size at (names_size names.indexed at.number)) h).0)
       names.inodes counted
 
+  -- each directory states its size, unless it is being removed
   size_there : All (λ at. (is_removed names.orphans at || has_size at (names_size names.indexed at.number)) ≡ true) names.inodes
   size_there i d below =
       let at = get_or names.inodes i d in
       let size = has_size at (names_size names.indexed at.number) in
       sized (format_of at.inode == 0o040000) (at.inode.nlink == 0) (is_among names.orphans at.number) size (orphans i d below)
-      (both (has_links at (links_of names.refs at.number)) (is_unlinked at || size) (counted i d below)).1
+      (two_hold (has_links at (links_of names.refs at.number)) (is_unlinked at || size) (counted i d below)).1
 
+  -- settled names have no findings
   pub nothing_wrong : names_findings names ≡ []
   nothing_wrong =
       let at_entry : Kind → Entry → Finding = λ which e. found which (names.tree ∷ e.dir ∷ e.offset ∷ []) in
@@ -316,5 +338,6 @@ module _ (names : Names) (settled : AreSettled names) where
       (λ at. found kind.DirSize (names.tree ∷ at.number ∷ at.inode.size ∷ shown_sum (names_size names.indexed at.number) ∷ [])) names.inodes size_there i
       ++ none_found (λ at. orphan_kept names.orphans at) (λ at. found kind.Orphan (names.tree ∷ at.number ∷ [])) names.inodes orphans i
 
+-- nothing is wrong with the names of a tree where they are settled
 pub settled_law : SettledLaw
 settled_law names settled = nothing_wrong names settled

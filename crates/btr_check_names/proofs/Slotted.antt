@@ -25,10 +25,11 @@ use Rattle.btr_check_names.specs.Pairs.{Half, claim_cmp}
 use Rattle.btr_check_names.specs.Slots.{Slot, AllBelow, Ascends, HasClaim, HasNone, IsInside, IsLaid, IsNext, half_in, listed, waits}
 use Rattle.btr_check_names.proofs.Claims.{same_claim, claim_itself, claims_total, one_claim}
 
--- a claim below another one isn't that one
+-- where a claim is below another one, that one is above it
 above : (a b : Claim) → claim_cmp a b ≡ Less → claim_cmp b a ≡ Greater
 above a b less = claims_total.antisymm b a ∙ ap ordering_reverse less
 
+-- a claim below another one isn't that one
 pub is_not_above : (a b : Claim) → claim_cmp a b ≡ Less → is_at (claim_cmp b) a ≡ false
 is_not_above a b less = ap is_eq (above a b less)
 
@@ -38,32 +39,39 @@ first_or_rest : (b : Bool) (q : Claim) (e : Claim × Half) (es : List (Claim × 
 first_or_rest true q e es = refl
 first_or_rest false q e es = refl
 
+-- the first slot is passed over where its claim is another one
 past : (a b : Bool) (x y z : Option Half) → b ≡ false → y ≡ z → cond (a && b) x y ≡ z
 past true true x y z not same = absurd (true≢false not)
 past true false x y z not same = same
 past false b x y z not same = same
 
+-- the answer is the first slot's, where it has the claim and nothing behind it does
 here : (a b : Bool) (x y : Option Half) → b ≡ true → y ≡ None → cond (a && b) x y ≡ cond a x None
 here true true x y is none = refl
 here true false x y is none = absurd (true≢false (sym is))
 here false b x y is none = none
 
+-- where nothing behind the first slot has its claim, taking it away leaves what is behind it
 first_gone : (a b : Bool) (x y : Option Half) → (b ≡ true → y ≡ None) → y ≡ cond b None (cond (a && b) x y)
 first_gone a true x y none = none refl
 first_gone true false x y none = refl
 first_gone false false x y none = refl
 
+-- taking away a slot behind the first one leaves the first as it is
 later_gone : (g a b : Bool) (x y z : Option Half) → z ≡ cond g None y → (g ≡ true → b ≡ false) → cond (a && b) x z ≡ cond g None (cond (a && b) x y)
 later_gone true a b x y z gone apart = past a b x z None (apart refl) gone
 later_gone false a b x y z gone apart = ap (cond (a && b) x) gone
 
+-- slots that ascend do so without the first too
 ascends_rest : (slot : Slot) (slots : List Slot) → Ascends (slot ∷ slots) → Ascends slots
 ascends_rest slot slots ascends i j d below in_range = ascends (suc i) (suc j) d (omega (arith, below)) (omega (arith, in_range))
 
+-- the first claim is below each one behind it
 first_below : (slot : Slot) (slots : List Slot) → Ascends (slot ∷ slots) → (j : ℕ) (d : Slot) → j < length slots
     → claim_cmp slot.claim (get_or slots j d).claim ≡ Less
 first_below slot slots ascends j d in_range = ascends zero (suc j) d (omega arith) (omega (arith, in_range))
 
+-- a claim above another one isn't that one
 equal_back : (a b : Claim) → claim_cmp a b ≡ Less → is_at (claim_cmp a) b ≡ false
 equal_back a b less = ap is_eq less
 
@@ -80,6 +88,7 @@ module _ (names : List ℕ) where
   pub none_found : (slots : List Slot) (q : Claim) → HasNone slots q → find claim_cmp q (listed names slots) ≡ None
   none_found slots q none = found_none slots q (recursion_from_All (λ (slot : Slot). is_at (claim_cmp q) slot.claim ≡ false) slots none)
 
+  -- behind a slot nothing waits at its claim
   none_behind : (slot : Slot) (slots : List Slot) → Ascends (slot ∷ slots) → find claim_cmp slot.claim (listed names slots) ≡ None
   none_behind slot slots ascends = none_found slots slot.claim (λ j d in_range. equal_back slot.claim (get_or slots j d).claim
       (first_below slot slots ascends j d in_range))
@@ -126,6 +135,7 @@ module _ (names : List ℕ) where
   listed_by true e es fs gs same = ap (λ l. e ∷ l) same
   listed_by false e es fs gs same = same
 
+  -- what waits in slots and in more behind them waits in one and then in the other
   pub listed_append : (slots more : List Slot) → listed names (slots ++ more) ≡ listed names slots ++ listed names more
   listed_append [] more = refl
   listed_append (slot ∷ slots) more =
@@ -165,14 +175,17 @@ module _ (names : List ℕ) where
 abbrev claims : List Slot → List Claim
 claims slots = map (λ (slot : Slot). slot.claim) slots
 
+-- slots with the same claims are as many
 same_length : (xs ys : List Slot) → claims ys ≡ claims xs → length ys ≡ length xs
 same_length xs ys same = sym (length-map ys (λ (slot : Slot). slot.claim)) ∙ ap length same ∙ length-map xs (λ (slot : Slot). slot.claim)
 
+-- slots with the same claims have the same one at each place
 claim_at : (xs ys : List Slot) (i : ℕ) (d : Slot) → claims ys ≡ claims xs → i < length xs → i < length ys → (get_or ys i d).claim ≡ (get_or xs i d).claim
 claim_at xs ys i d same x y =
     sym (get_or-map (λ (slot : Slot). slot.claim) ys i d d.claim y) ∙ ap (λ l. get_or l i d.claim) same
     ∙ get_or-map (λ (slot : Slot). slot.claim) xs i d d.claim x
 
+-- slots with the claims of some that ascend do so too
 pub ascends_alike : (xs ys : List Slot) → claims ys ≡ claims xs → Ascends xs → Ascends ys
 ascends_alike xs ys same ascends i j d below in_range =
     let long = same_length xs ys same in
@@ -180,6 +193,7 @@ ascends_alike xs ys same ascends i j d below in_range =
     let second = claim_at xs ys j d same (omega (arith, long, in_range)) in_range in
     (λ t. claim_cmp (first t) (second t)) ∙ ascends i j d below (omega (arith, long, in_range))
 
+-- a slot in the place of one with its claim leaves the claims as they are
 pub same_claims : (slots : List Slot) (i : ℕ) (d slot : Slot) → i < length slots → slot.claim ≡ (get_or slots i d).claim
     → claims (set slots i slot) ≡ claims slots
 same_claims slots i d slot in_range same =
@@ -204,10 +218,12 @@ ascends_push slots slot ascends below i j d less in_range = by (cases_lt j (leng
 
 -- what a binary search finds
 module _ (slots : List Slot) (k : Claim) (ascends : Ascends slots) where
+  -- compared with a claim, slots rise from those below it to those above it
   rises : IsNonDecreasingBy (λ (slot : Slot). ordering_index (claim_cmp slot.claim k)) slots
   rises = searchable_from_sorted claims_total (λ (slot : Slot). slot.claim) slots k
       (λ i d from to. ap is_lt (above (get_or slots i d).claim (get_or slots (i + 1) d).claim (ascends i (i + 1) d (omega arith) to)))
 
+  -- a slot that a binary search finds has the claim, and where it finds none, no slot has it
   pub searched : (r : Result ℕ ℕ) → IsSearchInRange r (length slots) → IsBinarySearchResult (λ (slot : Slot). claim_cmp slot.claim k) slots r
       → record { found : IfOk r (HasClaim slots k); absent : IfErr r (λ _. HasNone slots k) }
   searched (Ok at) in_range equal = record { found = record { in_range = in_range; is = equal }; absent = tt }
@@ -245,7 +261,8 @@ all_below slots k last ascends is is_below j d in_range = by (cases_lt j (length
         (ap (claim_cmp (get_or slots j d).claim) (sym (place (length slots - 1) refl)) ∙ ascends j (length slots - 1) d less (omega (arith, in_range))) below
     by (inr more) = ap (λ q. claim_cmp q k) (place j (omega (arith, more, in_range))) ∙ below
 
-none_at : (b : Bool) (x : Option Half) → (b ≡ true → x ≡ None) → x ≡ cond b None x
+-- nothing is taken away where nothing is
+pub none_at : (b : Bool) (x : Option Half) → (b ≡ true → x ≡ None) → x ≡ cond b None x
 none_at true x none = none refl
 none_at false x none = refl
 
@@ -258,12 +275,14 @@ nothing_removed es k none = same_map claims_total one_claim _ _ (λ q.
 
 -- where a slot waits no more, what waited at its claim is taken away
 module _ (names : List ℕ) (slots : List Slot) (laid : IsLaid names slots) where
+  -- what a search for the claim of a slot finds is what waits in the slot
   pub found_claim : (k : Claim) (i : ℕ) (d : Slot) → HasClaim slots k i
       → find claim_cmp k (listed names slots) ≡ cond (waits (get_or slots i d)) (Some (half_in names (get_or slots i d))) None
   found_claim k i d has =
       ap (λ q. find claim_cmp q (listed names slots)) (sym (one_claim (get_or slots i d).claim k (has.is d)))
       ∙ found_at names slots i d laid.ascends has.in_range
 
+  -- once a slot waits no more, what waits is what waited but for its claim
   pub let_go : (k : Claim) (i : ℕ) (d gone : Slot) → claim_cmp (get_or slots i d).claim k ≡ Equal → i < length slots → waits gone ≡ false
       → from_entries {R = claim_cmp} (listed names (set slots i gone)) ≡ remove (from_entries (listed names slots)) k
   let_go k i d gone is in_range none = same_map claims_total one_claim _ _ (λ q.
@@ -272,6 +291,7 @@ module _ (names : List ℕ) (slots : List Slot) (laid : IsLaid names slots) wher
       ∙ sym (get-remove claims_total (from_entries (listed names slots)) k q
       ∙ ap (cond (is_at (claim_cmp q) k) None) (get-from_entries claims_total (listed names slots) q)))
 
+  -- slots stay laid out as one takes the place of another of its claim, its name among the bytes
   pub laid_still : (i : ℕ) (d slot : Slot) → i < length slots → slot.claim ≡ (get_or slots i d).claim → IsInside names slot → IsLaid names (set slots i slot)
   laid_still i d slot in_range same inside = record {
     ascends = ascends_alike slots (set slots i slot) (same_claims slots i d slot in_range same) laid.ascends;
@@ -283,6 +303,7 @@ module _ (names : List ℕ) (slots : List Slot) (laid : IsLaid names slots) wher
   -- one more slot, and its name behind all others
   module _ (k : Claim) (first : Bool) (name : List ℕ) (slot : Slot) (is : slot ≡ record { claim = k; is_first = first; at = length names; len = length name })
       (next : IsNext slots k (length name)) where
+    -- slots stay laid out with one more and its name behind all
     pub laid_more : IsLaid (names ++ name) (slots ++ slot ∷ [])
     laid_more = record {
       ascends = ascends_push slots slot laid.ascends (subst (AllBelow slots) (sym (ap (λ (s : Slot). s.claim) is)) next.above);
@@ -292,6 +313,7 @@ module _ (names : List ℕ) (slots : List Slot) (laid : IsLaid names slots) wher
       few = omega (arith, next.few, length-append slots (slot ∷ []));
     }
 
+    -- what waits with one more slot is what waited and the new name
     pub waits_more : from_entries {R = claim_cmp} (listed (names ++ name) (slots ++ slot ∷ []))
         ≡ insert (from_entries (listed names slots)) k (record { is_first = first; name = name })
     waits_more =
@@ -309,15 +331,19 @@ module _ (names : List ℕ) (slots : List Slot) (laid : IsLaid names slots) wher
 module _ (names kept : List ℕ) (old slots : List Slot) (i : ℕ) (d slot : Slot) (in_range : i < length slots) (rest : drop i slots ≡ drop i old)
     (inside : IsInside names (get_or slots i d))
     (moved : slot ≡ record { claim = (get_or slots i d).claim; is_first = (get_or slots i d).is_first; at = length kept; len = (get_or slots i d).len }) where
+  -- the slot whose name is moved
   abbrev this : Slot
   this = get_or slots i d
 
+  -- the name that is moved
   abbrev name : List ℕ
   name = take this.len (drop this.at names)
 
+  -- the name that is moved is as long as its slot says
   long : length name ≡ this.len
   long = length-take-le this.len (drop this.at names) (omega (arith, inside, length-drop this.at names))
 
+  -- what waits in a slot is the same after its name was moved
   one_moved : listed (kept ++ name) (slot ∷ []) ≡ listed names (this ∷ [])
   one_moved =
       let text : take this.len (drop (length kept) (kept ++ name)) ≡ name = ap (take this.len) (drop_at kept name (length kept) refl)
@@ -325,6 +351,7 @@ module _ (names kept : List ℕ) (old slots : List Slot) (i : ℕ) (d slot : Slo
       ap (λ (s : Slot). listed (kept ++ name) (s ∷ [])) moved ∙ (λ t. cond (waits this)
       ((this.claim, record { is_first = this.is_first; name = text t }) ∷ []) [])
 
+  -- what waits in slots that have moved and in those that have not stays the same as one more is moved
   pub moved_more : (all : List (Claim × Half)) → listed kept (take i slots) ++ listed names (drop i old) ≡ all → All (IsInside kept) (take i slots)
       → listed (kept ++ name) (take (i + 1) (set slots i slot)) ++ listed names (drop (i + 1) old) ≡ all
   moved_more all before within =
@@ -336,15 +363,18 @@ module _ (names kept : List ℕ) (old slots : List Slot) (i : ℕ) (d slot : Slo
       ∙ ap (listed names) (ap (λ l. this ∷ l) (sym (drop_more_same slots old i rest)) ∙ sym (drop_more slots i d in_range) ∙ rest))
       ∙ before
 
+  -- the names of slots that have moved lie among the bytes that are kept, also with one more
   pub inside_more : All (IsInside kept) (take i slots) → All (IsInside (kept ++ name)) (take (i + 1) (set slots i slot))
   inside_more within =
       All-same (IsInside (kept ++ name)) (take (i + 1) (set slots i slot)) (take i slots ++ slot ∷ []) (take_more_set slots i slot in_range)
       (All-push (IsInside (kept ++ name)) (take i slots) slot (inside_grown kept name (take i slots) within)
       (omega (arith, ap (λ (s : Slot). s.at) moved, ap (λ (s : Slot). s.len) moved, long, length-append kept name)))
 
+  -- the claims stay as a name is moved
   pub claims_more : claims slots ≡ claims old → claims (set slots i slot) ≡ claims old
   claims_more same = same_claims slots i d slot in_range (ap (λ (s : Slot). s.claim) moved) ∙ same
 
+  -- the slots behind those that have moved are as they were
   pub rest_more : drop (i + 1) (set slots i slot) ≡ drop (i + 1) old
   rest_more = drop-set-lt (i + 1) slots i slot (omega arith) ∙ drop_more_same slots old i rest
 
@@ -370,6 +400,7 @@ all_moved names kept old slots same ascends inside short few = record {
 pub kept_ascend : (slots : List Slot) → Ascends slots → Ascends (filter waits slots)
 kept_ascend slots ascends = AllPairs-filter (λ (a b : Slot). claim_cmp a.claim b.claim ≡ Less) waits slots ascends
 
+-- the slots whose names wait are as few as all may be
 pub kept_few : (slots : List Slot) → length slots ≤ 16777216 → length (filter waits slots) ≤ 16777216
 kept_few slots few = omega (arith, few, length-filter waits slots, count_by-le-length waits slots)
 
@@ -387,6 +418,7 @@ all_gone names other slots kept is none = by kept none is
     by (slot ∷ l) none is = absurd (omega (arith, none))
 
 module _ (m : FinMap claim_cmp Half) (k : Claim) where
+  -- a map that something was put in isn't empty
   some_by : (b : Bool) → contains_key m k ≡ b → (cond b (len m) (len m + 1) == 0) ≡ false
   some_by true is = ne_eqb (len m) 0 (λ none. absurd (true≢false (sym is ∙ ap (λ x. contains_key x k) (empty_of_len m none)
       ∙ ap is_some (get-empty claim_cmp k))))
@@ -403,9 +435,11 @@ none_by : (b : Bool) (e : Claim × Half) (es : List (Claim × Half)) (a : Bool) 
 none_by true e es a is = ne_eqb (length (e ∷ es)) 0 (λ none. absurd (omega (arith, none)))
 none_by false e es a is = is
 
+-- the list of what waits is empty just where no slot's name waits
 none_listed : (names : List ℕ) (slots : List Slot) → (length (listed names slots) == 0) ≡ not (list_any waits slots)
 none_listed names [] = refl
 none_listed names (slot ∷ slots) = none_by (waits slot) (slot.claim, half_in names slot) (listed names slots) (list_any waits slots) (none_listed names slots)
 
+-- the map of what waits is empty just where no slot's name waits
 pub nothing_waits : (names : List ℕ) (slots : List Slot) → (len (from_entries {R = claim_cmp} (listed names slots)) == 0) ≡ not (list_any waits slots)
 nothing_waits names slots = none_in (listed names slots) ∙ none_listed names slots

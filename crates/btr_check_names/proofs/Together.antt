@@ -9,30 +9,39 @@ use Rattle.btr_check_names.specs.Names.{Names, findings_but, entry_item, entry_i
 use Rattle.btr_check_names.specs.Subvolumes.{Subvolumes, name_kept, subvolume_findings}
 
 module _ (names : Names) (removed : List ℕ) where
+  -- the findings on entries at indexes without one under their hash
   abbrev rows_items : List Finding
   rows_items = filter_map (entry_item names.tree removed names.hashed) names.indexed
 
+  -- the findings on entries under hashes without one at an index
   abbrev rows_indexes : List Finding
   rows_indexes = filter_map (entry_index names.tree removed names.indexed) names.hashed
 
+  -- the findings on entries that lead to inodes without their reference
   abbrev rows_refs : List Finding
   rows_refs = filter_map (entry_ref names.tree removed names.refs) names.indexed
 
+  -- the findings on references without their entry
   abbrev rows_entries : List Finding
   rows_entries = filter_map (ref_entry names.tree names.dirid names.indexed) names.refs
 
+  -- the findings on entries whose inode isn't there, or of another kind
   abbrev rows_modes : List Finding
   rows_modes = filter_map (entry_mode names.tree removed names.inodes) names.indexed
 
+  -- the findings on inodes that state another number of references
   abbrev rows_links : List Finding
   rows_links = filter_map (link_count names.tree names.refs) names.inodes
 
+  -- the findings on directories that state another size
   abbrev rows_sizes : List Finding
   rows_sizes = filter_map (dir_size names.tree names.orphans names.indexed) names.inodes
 
+  -- the findings on inodes without links that are no orphans
   abbrev rows_orphans : List Finding
   rows_orphans = filter_map (orphan names.tree names.orphans) names.inodes
 
+  -- the findings of the eight rules, put one rule after another, are all that are on the names
   pub all_added : (none of_items of_indexes of_refs of_entries of_modes of_links of_sizes of_orphans : FoundSet)
       → PutsRows (entry_item names.tree removed names.hashed) names.indexed none of_items
       → PutsRows (entry_index names.tree removed names.indexed) names.hashed of_items of_indexes

@@ -87,8 +87,8 @@ abbrev pub SetsOnly : List (Claim × Half) → Claim → Option Half → List (C
 SetsOnly old claim half new = (other : Claim) → map_at new other ≡ cond (is_at (claim_cmp claim) other) half (map_at old other)
 
 -- what waits in a list doesn't wait in a map
-abbrev pub AreApart : FinMap claim_cmp Half → List (Claim × Half) → Type 0
-AreApart list map = (claim : Claim) (half : Half) → get list claim ≡ Some half → map_at map claim ≡ None
+abbrev pub WaitOnce : FinMap claim_cmp Half → List (Claim × Half) → Type 0
+WaitOnce list map = (claim : Claim) (half : Half) → get list claim ≡ Some half → map_at map claim ≡ None
 
 -- nothing waits yet, and no names differ
 abbrev pub no_pairs : Pairs

@@ -104,11 +104,11 @@ unpaired_of dirid marks = fold unpaired_step (nothing_unpaired dirid) marks
 
 -- where a tour of a tree leaves all names paired they are settled, and nothing is wrong with them; and
 -- the entries that lead to subvolumes are kept
-pub record Tells (tree dirid : ℕ) (marks : List Mark) : Type 0 where
+pub record KeepsSubvolumes (tree dirid : ℕ) (marks : List Mark) : Type 0 where
   pub settled : are_paired (unpaired_of dirid marks) ≡ true → AreSettled (names_in tree dirid (items_met marks))
   pub sound : are_paired (unpaired_of dirid marks) ≡ true → names_findings (names_in tree dirid (items_met marks)) ≡ []
   pub subvolumes : (unpaired_of dirid marks).subvolumes ≡ filter leads_to_root (names_in tree dirid (items_met marks)).indexed
 
 -- what a tour of a tree leaves says whether its names are sound, whatever the tour met
 abbrev pub UnpairedLaw : Type 0
-UnpairedLaw = (tree dirid : ℕ) (marks : List Mark) → Tells tree dirid marks
+UnpairedLaw = (tree dirid : ℕ) (marks : List Mark) → KeepsSubvolumes tree dirid marks

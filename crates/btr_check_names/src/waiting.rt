@@ -22,7 +22,7 @@ pub(crate) struct Waiting {
 
 impl Model for Waiting {
     ghost use Rattle.std.specs.FinMap.{FinMap};
-    ghost use Rattle.btr_check_names.specs.Pairs.{AreApart, Half, claim_cmp, coded_waiting, joined};
+    ghost use Rattle.btr_check_names.specs.Pairs.{WaitOnce, Half, claim_cmp, coded_waiting, joined};
 
     ghost Value = { FinMap claim_cmp Half };
 
@@ -30,7 +30,7 @@ impl Model for Waiting {
 
     ghost view = { λ w. joined w.ascending w.others.entries };
 
-    ghost invariant = { λ w. AreApart w.ascending w.others.entries };
+    ghost invariant = { λ w. WaitOnce w.ascending w.others.entries };
 }
 
 impl Waiting {

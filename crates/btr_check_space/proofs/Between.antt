@@ -38,6 +38,7 @@ pub start_there : (groups : List Group) (bounds : List ℕ) (i : ℕ) (d : Group
 start_there groups bounds i d are below =
     Contains-permutation (flat_map ends_of groups) bounds (get_or groups i d).start are.same (ends_there groups i d below).0
 
+-- a group's end stands among the bounds in their order
 pub end_there : (groups : List Group) (bounds : List ℕ) (i : ℕ) (d : Group) → AreBounds groups bounds → i < length groups
     → Contains bounds ((get_or groups i d).start + (get_or groups i d).len)
 end_there groups bounds i d are below =
@@ -107,6 +108,7 @@ apart_more extents bounds old new i place d below parted are long more = record 
     flip : (bound addr : ℕ) (b : Bool) → leb bound addr ≡ b → ltb addr bound ≡ not b
     flip bound addr b e = grind (arith, nat_tests)
 
+    -- a bound stands at or behind the extent's place just where the extent begins before it
     test : (k : ℕ) → k < length bounds → leb place k ≡ ltb (get_or extents i d).addr (get_or bounds k 0)
     test k inside = by (leb place k) refl
       where
@@ -121,6 +123,7 @@ apart_none bounds lengths is = record {
   each = λ k inside. ap (sum_first (k + 1)) is ∙ no_sum (k + 1) (length bounds);
 }
   where
+    -- the first of some lengths of 0 come to 0
     no_sum : (count n : ℕ) → sum_first count (replicate n 0) ≡ 0
     no_sum zero n = refl
     no_sum (suc count) zero = refl
@@ -150,6 +153,7 @@ stands_at bounds bound place ascend there parted =
     at_least : (x y : ℕ) → ltb x y ≡ false → y ≤ x
     at_least x y e = grind (arith, nat_tests)
 
+-- a length counts in a group or before it just where it counts before the group's end
 parts : (addr len start size : ℕ) → cond (leb start addr && ltb addr (start + size)) len 0 + cond (ltb addr start) len 0
     ≡ cond (ltb addr (start + size)) len 0
 parts addr len start size = grind (arith, nat_tests)
@@ -166,6 +170,7 @@ low_first extents group high low is_high is_low =
     let all : used_in extents group + before extents group.start ≡ before extents (group.start + group.len) = within extents group in
     omega (arith, is_high, is_low, all)
 
+-- what extents that begin in a group have is the sum before its end less the one before its start
 pub used_is : (extents : List Extent) (group : Group) (high low : ℕ)
     → high ≡ before extents (group.start + group.len) → low ≡ before extents group.start → high - low ≡ used_in extents group
 used_is extents group high low is_high is_low =

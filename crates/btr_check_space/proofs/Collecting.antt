@@ -10,6 +10,7 @@ module _ {X : Type 0} (read : TreeItem → Option X) where
   first_of_rest None rest = refl
   first_of_rest (Some x) rest = refl
 
+  -- a list has in the end what it had, and behind it what the items say
   collected : (list : List X) (marks : List Mark) → fold (with_mark read) list marks ≡ list ++ filter_map read (items_met marks)
   collected list [] = sym (append-nil list)
   collected list (Block place block ∷ marks) = collected list marks
@@ -20,5 +21,6 @@ module _ {X : Type 0} (read : TreeItem → Option X) where
       ∙ ap (λ l. list ++ l) (first_of_rest (read item) (filter_map read (items_met marks)))
   collected list (Left fault ∷ marks) = collected list marks
 
+  -- a list that begins empty has in the end what the items say
   pub collects : Collects read
   collects marks = collected [] marks

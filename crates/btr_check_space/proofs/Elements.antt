@@ -22,6 +22,7 @@ zip_long (x ∷ xs) [] i below also = absurd (omega (arith, also))
 zip_long (x ∷ xs) (y ∷ ys) zero below also = omega arith
 zip_long (x ∷ xs) (y ∷ ys) (suc i) below also = let rest : i < length (zip xs ys) = zip_long xs ys i (omega (arith, below)) (omega (arith, also)) in omega arith
 
+-- pairs of two lists are no more than the second one has elements
 pub zip_short : {X Y : Type 0} (xs : List X) (ys : List Y) → length (zip xs ys) ≤ length ys
 zip_short [] ys = omega arith
 zip_short (x ∷ xs) [] = omega arith

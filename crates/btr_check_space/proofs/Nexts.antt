@@ -15,6 +15,7 @@ left_from addr chunks = filter (λ (chunk : Chunk). leb addr chunk.start) chunks
 abbrev pub Ascends : List Chunk → Type 0
 Ascends chunks = (i j : ℕ) (a b : Chunk) → i < j → slice_get chunks i ≡ Some a → slice_get chunks j ≡ Some b → a.start < b.start
 
+-- chunks that ascend do so without the first too
 later : (chunk : Chunk) (chunks : List Chunk) → Ascends (chunk ∷ chunks) → Ascends chunks
 later chunk chunks up i j a b below = up (suc i) (suc j) a b (omega (arith, below))
 
@@ -55,6 +56,7 @@ next_behind addr (c ∷ chunks) chunk is = by (leb addr c.start) refl (next_behi
 not_behind : (start : ℕ) → leb (start + 1) start ≡ false
 not_behind start = grind (arith, nat_tests)
 
+-- a chunk before an address doesn't start behind one that starts at it or later
 before_it : (addr start next : ℕ) → leb addr start ≡ false → leb addr next ≡ true → leb (next + 1) start ≡ false
 before_it addr start next above behind = grind (arith, nat_tests)
 
@@ -67,9 +69,11 @@ pub next_left : (addr : ℕ) (chunks : List Chunk) (chunk : Chunk) → Ascends c
 next_left addr [] chunk up is = cc
 next_left addr (c ∷ chunks) chunk up is = by (leb addr c.start) refl (next_left addr chunks chunk (later c chunks up)) is
   where
+    -- the chunks behind the first start behind its start
     behind : (i : ℕ) (a : Chunk) → slice_get chunks i ≡ Some a → c.start + 1 ≤ a.start
     behind i a at = let below : c.start < a.start = up 0 (suc i) c a (omega arith) refl at in omega arith
 
+    -- where the first chunk is left, it is the first of those, and the others are left behind its start
     first : leb addr c.start ≡ true → c ∷ left_from addr chunks ≡ c ∷ left_from (c.start + 1) (c ∷ chunks)
     first e =
         let from : addr ≤ c.start = le_from addr c.start e in

@@ -1,5 +1,5 @@
 -- How far ranges reach, and whether one of them holds another.
-use Rattle.std.proofs.Common.{◌≡◌, ℕ, zero, suc, ◌+◌, ◌-◌, ◌<◌, ◌≤◌, max, Bool, true, false, ◌&&◌, ◌||◌, List, [], ◌∷◌, ◌++◌, take, drop, set, get_or, length}
+use Rattle.std.proofs.Common.{◌≡◌, ℕ, zero, suc, ◌+◌, ◌-◌, ◌<◌, ◌≤◌, max, true, false, ◌&&◌, ◌||◌, List, [], ◌∷◌, ◌++◌, take, drop, set, get_or, length}
 use Rattle.std.proofs.Common.{leb, ltb, refl, sym, ap, subst, ◌∙◌, append_assoc, arith}
 use Rattle.std.proofs.lemmas.Bool.Decides.{nat_tests}
 use Rattle.std.proofs.lemmas.List.{drop_more, drop-set-lt, take_more_set}
@@ -10,10 +10,13 @@ use Rattle.std.specs.List.Sorted.{IsNonDecreasingBy, IsPartitionPoint}
 use Rattle.btr_check_space.specs.AddressRanges.{HoldSame, AscendAtBothEnds, end_of, is_held, lengthened}
 use Rattle.btr_check_space.specs.declared.address_ranges.AddressRange.{AddressRange}
 use Rattle.btr_check_space.proofs.Prefixes.{any_front}
+use Rattle.btr_findings.proofs.Onces.{or_regroups}
 
+-- where a range begins
 abbrev pub start_of : AddressRange → ℕ
 start_of range = range.start
 
+-- the empty range at address 0
 abbrev pub nothing : AddressRange
 nothing = record { start = 0; len = 0 }
 
@@ -39,6 +42,7 @@ abbrev Ascend : AddressRange → List AddressRange → Type 0
 Ascend earlier [] = Unit {0}
 Ascend earlier (range ∷ ranges) = (earlier.start ≤ range.start) × Ascend range ranges
 
+-- ranges in ascending order of their starts begin so behind the first of them
 ascending : (first : AddressRange) (list : List AddressRange) → IsNonDecreasingBy start_of (first ∷ list) → Ascend first list
 ascending first [] up = tt
 ascending first (range ∷ list) up = (
@@ -47,18 +51,16 @@ ascending first (range ∷ list) up = (
       (λ i j d le below. up (suc i) (suc j) d (omega (arith, le)) (omega (arith, below))),
 )
 
+-- ranges that begin in ascending order behind one do so behind any of its start
 same_start : (one other : AddressRange) (list : List AddressRange) → one.start ≡ other.start → Ascend other list → Ascend one list
 same_start one other [] same up = tt
 same_start one other (range ∷ list) same up = (omega (arith, same, up.0), up.1)
 
+-- of two ranges one holds another just where one does with the second as far as the first reaches
 holds_more : (start end a len b more : ℕ) → a ≤ b
     → ((leb a start && leb end (a + len)) || (leb b start && leb end (b + max more (len - (b - a)))))
     ≡ ((leb a start && leb end (a + len)) || (leb b start && leb end (b + more)))
 holds_more start end a len b more le = grind (arith, nat_tests)
-
-or_regroups : (a b c : Bool) → ((a || b) || c) ≡ (a || (b || c))
-or_regroups true b c = refl
-or_regroups false b c = refl
 
 -- with the earlier one they hold what they held
 still_held : (start end : ℕ) (earlier : AddressRange) (list : List AddressRange) → Ascend earlier list
@@ -73,6 +75,7 @@ still_held start end earlier (range ∷ list) up =
     ∙ ap (λ b. b || list_any held list) (holds_more start end earlier.start earlier.len range.start range.len up.0)
     ∙ or_regroups (held earlier) (held range) (list_any held list)
 
+-- a range behind the empty one at address 0 isn't lengthened
 first_is : (range : AddressRange) → lengthened nothing range ≡ range
 first_is range = let same : max range.len (0 - (range.start - 0)) ≡ range.len = omega arith in λ i. record { start = range.start; len = same i }
 
@@ -83,6 +86,7 @@ hold_same (range ∷ list) up start end =
     ap (λ one. list_any (is_held start end) (one ∷ all_lengthened one list)) (first_is range)
     ∙ still_held start end range list (ascending range list up)
 
+-- one more in front, of no greater number, and all are still in ascending order
 up_from : {X : Type 0} (n : X → ℕ) (x y : X) (ys : List X) → n x ≤ n y → IsNonDecreasingBy n (y ∷ ys) → IsNonDecreasingBy n (x ∷ y ∷ ys)
 up_from n x y ys le up zero zero d ij below = omega arith
 up_from n x y ys le up zero (suc j) d ij below =
@@ -91,15 +95,18 @@ up_from n x y ys le up zero (suc j) d ij below =
 up_from n x y ys le up (suc i) zero d ij below = absurd (omega (arith, ij))
 up_from n x y ys le up (suc i) (suc j) d ij below = up i j d (omega (arith, ij)) (omega (arith, below))
 
+-- a lengthened range ends no earlier than the one before it
 reaches_more : (a len b more : ℕ) → a ≤ b → a + len ≤ b + max more (len - (b - a))
 reaches_more a len b more le = omega (arith, le)
 
+-- lengthened ranges are in ascending order of their starts
 starts_up : (earlier : AddressRange) (list : List AddressRange) → Ascend earlier list → IsNonDecreasingBy start_of (earlier ∷ all_lengthened earlier list)
 starts_up earlier [] up = IsNonDecreasingBy-short start_of (earlier ∷ []) (omega arith)
 starts_up earlier (range ∷ list) up =
     let longer = lengthened earlier range in
     up_from start_of earlier longer (all_lengthened longer list) up.0 (starts_up longer list (same_start longer range list refl up.1))
 
+-- lengthened ranges are in ascending order of their ends
 ends_up : (earlier : AddressRange) (list : List AddressRange) → Ascend earlier list → IsNonDecreasingBy end_of (earlier ∷ all_lengthened earlier list)
 ends_up earlier [] up = IsNonDecreasingBy-short end_of (earlier ∷ []) (omega arith)
 ends_up earlier (range ∷ list) up =
@@ -107,6 +114,7 @@ ends_up earlier (range ∷ list) up =
     up_from end_of earlier longer (all_lengthened longer list) (reaches_more earlier.start earlier.len range.start range.len up.0)
     (ends_up longer list (same_start longer range list refl up.1))
 
+-- ranges lengthened behind a first one ascend at both ends together with it
 both_ascend : (range : AddressRange) (list : List AddressRange) → Ascend range list → AscendAtBothEnds (range ∷ all_lengthened range list)
 both_ascend range list up = record {
   starts = starts_up range list up;
@@ -122,6 +130,7 @@ ascend_lengthened [] up = record {
 ascend_lengthened (range ∷ list) up = subst (λ one. AscendAtBothEnds (one ∷ all_lengthened one list)) (sym (first_is range))
     (both_ascend range list (ascending range list up))
 
+-- one of some numbers is at least an end just where the last is, if it is the greatest
 farther : (end count a b : ℕ) → (0 < count → a ≤ b) → ((ltb 0 count && leb end a) || leb end b) ≡ (ltb 0 (count + 1) && leb end b)
 farther end count a b le = grind (arith, nat_tests)
 

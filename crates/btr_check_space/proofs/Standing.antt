@@ -1,6 +1,6 @@
 -- How ranges of one length stand, up to where that is the same.
-use Rattle.std.proofs.Common.{◌≡◌, ℕ, ◌+◌, ◌-◌, ◌<◌, ◌≤◌, ◌^◌, Bool, true, false, ◌&&◌, cond, ◌⊎◌, inl, inr, List, length, get_or, eqb, leb, ltb, refl, ap, ◌∙◌}
-use Rattle.std.proofs.Common.{arith}
+use Rattle.std.proofs.Common.{◌≡◌, ℕ, ◌+◌, ◌-◌, ◌<◌, ◌≤◌, ◌^◌, true, false, ◌&&◌, cond, ◌⊎◌, inl, inr, List, length, get_or, eqb, leb, ltb, ap, ◌∙◌}
+use Rattle.std.proofs.Common.{Bool, refl, arith}
 use Rattle.std.proofs.lemmas.Bool.{cases_lt}
 use Rattle.std.proofs.lemmas.Bool.Decides.{nat_tests}
 use Rattle.std.proofs.lemmas.List.Folds.{list_any_at}
@@ -9,6 +9,10 @@ use Rattle.btr_check_space.specs.AddressRanges.{AscendAtBothEnds, end_before, en
 use Rattle.btr_check_space.specs.declared.address_ranges.AddressRange.{AddressRange}
 use Rattle.btr_check_space.proofs.Elements.{default_free}
 use Rattle.btr_check_space.proofs.Reaching.{inside, start_of}
+
+and_false : (a : Bool) → (a && false) ≡ false
+and_false true = refl
+and_false false = refl
 
 at_most : (n at : ℕ) → n ≤ at → leb n at ≡ true
 at_most n at le = grind (arith, nat_tests)
@@ -21,10 +25,6 @@ is_at_most n at e = grind (arith, nat_tests)
 
 is_not_at_most : (n at : ℕ) → leb n at ≡ false → at < n
 is_not_at_most n at e = grind (arith, nat_tests)
-
-and_false : (a : Bool) → (a && false) ≡ false
-and_false true = refl
-and_false false = refl
 
 module _ {X : Type 0} (number : X → ℕ) (list : List X) where
   -- so many of some things have a number that is at most another
@@ -60,6 +60,7 @@ module _ (list : List AddressRange) (ascend : AscendAtBothEnds list) (begun star
       let tests : eqb begun 0 ≡ false = grind (arith, nat_tests) in
       ap (λ b. cond b 0 (end_of (get_or list (begun - 1) no_range))) tests
 
+  -- where no range begins at the address or before it, 0 stands for the end
   end_none : begun ≡ 0 → end_before list begun ≡ 0
   end_none none = ap (λ n. end_before list n) none
 
@@ -69,6 +70,7 @@ module _ (list : List AddressRange) (ascend : AscendAtBothEnds list) (begun star
       let tests : ltb begun (length list) ≡ true = grind (arith, nat_tests) in
       ap (λ b. cond b (get_or list begun no_range).start (2 ^ 128 - 1)) tests
 
+  -- where none begins behind them, the last number of 128 bits stands for the start
   behind_none : length list ≤ begun → start_behind list begun ≡ 2 ^ 128 - 1
   behind_none none =
       let tests : ltb begun (length list) ≡ false = grind (arith, nat_tests) in

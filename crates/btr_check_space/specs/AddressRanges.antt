@@ -43,6 +43,6 @@ abbrev pub is_held_from : ℕ → List AddressRange → ℕ → Bool
 is_held_from len ranges at = list_any (is_held at (at + len)) ranges
 
 -- a test comes out the same from an address up to before another
-pub record Reaches (test : ℕ → Bool) (start : ℕ) (reach : Reach) : Type 0 where
+pub record HoldsUpTo (test : ℕ → Bool) (start : ℕ) (reach : Reach) : Type 0 where
   pub some : start < reach.until
   pub same : (at : ℕ) → start ≤ at → at < reach.until → test at ≡ reach.held

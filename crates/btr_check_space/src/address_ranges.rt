@@ -2,7 +2,7 @@
 ghost use Rattle.std.specs.Prelude.{◌≡◌, ◌+◌, ◌<◌, ◌≤◌, ◌^◌, length};
 ghost use Rattle.std.specs.List.Sorted.{IsNonDecreasingBy};
 ghost use Rattle.btr_check_space.specs.declared.address_ranges.AddressRange.{AddressRange};
-ghost use Rattle.btr_check_space.specs.AddressRanges.{HoldSame, AscendAtBothEnds, Reaches, end_before, end_of, is_held_from, lengthened, start_behind};
+ghost use Rattle.btr_check_space.specs.AddressRanges.{HoldSame, AscendAtBothEnds, HoldsUpTo, end_before, end_of, is_held_from, lengthened, start_behind};
 
 use std::marker::Model;
 
@@ -83,7 +83,7 @@ fn reach_in(ranges: &[AddressRange], start: u128, len: u64) -> Reach
     requires ascend { AscendAtBothEnds ranges.now }
     requires start { start < 2 ^ 127 }
     requires len { 0 < len }
-    ensures { Reaches (is_held_from len ranges.now) start result }
+    ensures { HoldsUpTo (is_held_from len ranges.now) start result }
 {
     let begun = ranges.partition_point(|range| u128::from(range.start) <= start);
     let end = end_before(ranges, begun);
@@ -118,7 +118,7 @@ impl Model for AddressRanges {
 impl AddressRanges {
     ghost use Rattle.std.specs.Prelude.{◌≡◌, ◌<◌, ◌^◌};
     ghost use Rattle.std.specs.List.{list_any};
-    ghost use Rattle.btr_check_space.specs.AddressRanges.{HoldSame, Reaches, is_held, is_held_from};
+    ghost use Rattle.btr_check_space.specs.AddressRanges.{HoldSame, HoldsUpTo, is_held, is_held_from};
 
     /// These ranges, in whatever order they are.
     pub fn new(mut ranges: Vec<AddressRange>) -> AddressRanges
@@ -146,7 +146,7 @@ impl AddressRanges {
     pub fn reach(&self, start: u128, len: u64) -> Reach
         requires start { start < 2 ^ 127 }
         requires len { 0 < len }
-        ensures { Reaches (is_held_from len self.now) start result }
+        ensures { HoldsUpTo (is_held_from len self.now) start result }
     {
         reach_in(self.ranges.as_slice(), start, len)
     }

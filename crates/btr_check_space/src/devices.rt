@@ -6,7 +6,7 @@ ghost use Rattle.std.specs.BTreeSet.{contains};
 ghost use Rattle.std.specs.Ordering.{nat_cmp};
 ghost use Rattle.btr_findings.specs.Findings.{Adds};
 ghost use Rattle.btr_check_space.specs.Devices.{chunk_device, device_chunk, device_findings};
-ghost use Rattle.btr_check_space.specs.Given.{Given, Devids, PutsUnstated, PutsUsed, given_in};
+ghost use Rattle.btr_check_space.specs.Given.{HasAllocated, Devids, PutsUnstated, PutsUsed, given_in};
 
 use crate::chunks::ranges_of;
 use crate::growing::put_key;
@@ -89,7 +89,7 @@ fn add_given(given: &mut BTreeMap<u64, u128>, devid: u64, len: u64) -> Result<()
 
 // The bytes that each device has in device extents.
 fn given_of(alloc: Global, extents: &[DeviceExtent]) -> Result<BTreeMap<u64, u128>, Memory>
-    ensures { IfOk result (Given extents.now) }
+    ensures { IfOk result (HasAllocated extents.now) }
 {
     let mut given = BTreeMap::new(alloc);
     for extent in extents {

@@ -8,18 +8,9 @@ use Rattle.btr_findings.specs.Findings.{Adds, FoundSet, shown_sum, unless}
 use Rattle.btr_findings.specs.Sectors.{sector_finding, sectors}
 use Rattle.btr_findings.proofs.Adding.{adds_as, adds_then}
 use Rattle.btr_check_sums.specs.Broken.{broken, broken_if}
+use Rattle.btr_findings.proofs.SectorRuns.{range_join}
 
-range_join : (first a b : ℕ) → range_with_len first (a + b) ≡ range_with_len first a ++ range_with_len (first + a) b
-range_join first zero b =
-    let none : zero + b ≡ b = omega arith in
-    let here : first ≡ first + zero = omega arith in
-    ap (range_with_len first) none ∙ ap (λ n. range_with_len n b) here
-range_join first (suc a) b =
-    let more : suc a + b ≡ suc (a + b) = omega arith in
-    let next : first + 1 + a ≡ first + suc a = omega arith in
-    ap (range_with_len first) more ∙ ap (λ l. first ∷ l) (range_join (first + 1) a b)
-    ∙ ap (λ n. first ∷ (range_with_len (first + 1) a ++ range_with_len n b)) next
-
+-- sectors from a later one on are those that are counted from its address
 shifted : (start done first b : ℕ) → map (λ i. start + i * 4096) (range_with_len (first + done) b)
     ≡ map (λ i. start + done * 4096 + i * 4096) (range_with_len first b)
 shifted start done first zero = refl
@@ -38,9 +29,11 @@ sectors_join start done more =
     ∙ ap (λ l. sectors start done ++ l) (shifted start done 0 more)
 
 module _ (rule : SectorRule) (keeps : ℕ → Bool) (start : ℕ) where
+  -- so many sectors behind an address, from the one at a place on
   abbrev parts : ℕ → ℕ → List ℕ
   parts first count = map (λ i. start + i * 4096) (range_with_len first count)
 
+  -- where all sectors pass there is no finding
   all_pass : (first count : ℕ) → ((i : ℕ) → first ≤ i → i < first + count → keeps (start + i * 4096) ≡ true)
       → filter_map (broken rule keeps) (parts first count) ≡ []
   all_pass first zero each = refl
@@ -49,6 +42,7 @@ module _ (rule : SectorRule) (keeps : ℕ → Bool) (start : ℕ) where
       (filter_map (broken rule keeps) (parts (first + 1) count))) (each first (omega arith) (omega arith))
       ∙ all_pass (first + 1) count (λ i from below. each i (omega (arith, from)) (omega (arith, below)))
 
+  -- where no sector passes there is a finding on each
   none_pass : (first count : ℕ) → ((i : ℕ) → first ≤ i → i < first + count → keeps (start + i * 4096) ≡ false)
       → filter_map (broken rule keeps) (parts first count) ≡ map (λ addr. sector_finding rule (shown_sum addr)) (parts first count)
   none_pass first zero each = refl

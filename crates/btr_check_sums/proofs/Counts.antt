@@ -16,6 +16,7 @@ use Rattle.btr_check_sums.specs.Broken.{RankReaches, number_or_last}
 use Rattle.btr_check_sums.specs.Ranks.{rank, run_start, run_end, Bounds}
 use Rattle.btr_check_sums.specs.Sums.{covers}
 
+-- a sum of ones is how many there are
 ones : (xs : List ℕ) → sum_by (λ n. 1) xs ≡ length xs
 ones [] = refl
 ones (x ∷ xs) =
@@ -37,9 +38,11 @@ rank_is numbers at place within parted =
 rank_same : (numbers sorted : List ℕ) (at : ℕ) → IsPermutation numbers sorted → rank sorted at ≡ rank numbers at
 rank_same numbers sorted at same = sum_by-IsPermutation (λ n. cond (leb n at) 1 0) numbers sorted same
 
+-- how many numbers of runs are at most one is how many runs have such a number
 rank_map : (number : SumRun → ℕ) (runs : List SumRun) (at : ℕ) → rank (map number runs) at ≡ count_by (λ run. leb (number run) at) runs
 rank_map number runs at = fold-map (λ a n. a + cond (leb n at) 1 0) number 0 runs
 
+-- a run that begins at a sector or before it covers the sector, or ends at it or before it
 parts : (start size sector : ℕ) → cond (leb start sector && ltb sector (start + size)) 1 0 + cond (leb (start + size) sector) 1 0 ≡ cond (leb start sector) 1 0
 parts start size sector = grind (arith, nat_tests)
 
@@ -48,6 +51,7 @@ begun : (sector : ℕ) (runs : List SumRun) → count_by (covers sector) runs + 
     ≡ count_by (λ run. leb (run_start run) sector) runs
 begun sector runs = sum_both _ _ (λ (run : SumRun). cond (leb run.start sector) 1 0) runs (λ run. parts run.start (run.count * 4096) sector)
 
+-- no more than one run covers just where those that have begun are at most one more than those that have ended
 at_most_one : (all ended covering : ℕ) → covering + ended ≡ all → leb all (ended + 1) ≡ leb covering 1
 at_most_one all ended covering e = grind (arith, nat_tests)
 

@@ -10,6 +10,7 @@ use Rattle.btr_check_space.specs.AddressRanges.{HoldSame, end_of, is_held}
 use Rattle.btr_check_space.specs.declared.address_ranges.AddressRange.{AddressRange}
 use Rattle.btr_check_sums.specs.Sums.{covers, run_range, extent_range, data_extents, is_data_at}
 
+-- an end is at the next address or behind it just where it is behind this one
 one_more : (sector end : ℕ) → leb (sector + 1) end ≡ ltb sector end
 one_more sector end = grind (arith, nat_tests)
 

@@ -3,4 +3,4 @@ mod Counts
 mod Covered
 mod Keeping
 mod Numbers
-mod Sectors
+pub mod Sectors

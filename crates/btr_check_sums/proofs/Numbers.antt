@@ -1,15 +1,12 @@
 -- Sets of numbers that grow.
-use Rattle.std.proofs.Common.{◌≡◌, ℕ, ◌+◌, ◌<◌, Bool, true, false, ◌||◌, cond, List, length, take, get_or, eqb, refl, sym, ap, ◌∙◌, arith}
-use Rattle.std.proofs.lemmas.Bool.Decides.{nat_tests}
+use Rattle.std.proofs.Common.{◌≡◌, ℕ, ◌+◌, ◌<◌, Bool, true, false, ◌||◌, cond, List, length, take, get_or, eqb, refl, sym, ap, ◌∙◌}
 use Rattle.std.proofs.lemmas.List.Folds.{list_any_more}
 use Rattle.std.specs.BTreeMap.{is_at}
 use Rattle.std.specs.BTreeSet.{BTreeSet, contains}
 use Rattle.std.specs.List.{list_any}
 use Rattle.std.specs.Ordering.{is_eq, nat_cmp}
 use Rattle.btr_check_sums.specs.Ranks.{Inodes}
-
-same_number : (x y : ℕ) → is_eq (nat_cmp x y) ≡ eqb x y
-same_number x y = grind (arith, nat_tests)
+use Rattle.btr_findings.proofs.SectorRuns.{tied_number}
 
 or_turns : (a b : Bool) → cond a true b ≡ (b || a)
 or_turns true true = refl
@@ -25,5 +22,5 @@ inodes_more loose i old new below more before one =
     more one
     ∙ or_turns (is_eq (nat_cmp (get_or loose i 0) one)) (contains nat_cmp old one)
     ∙ ap (λ b. b || is_eq (nat_cmp (get_or loose i 0) one)) (before one)
-    ∙ ap (λ b. list_any (λ inode. eqb inode one) (take i loose) || b) (same_number (get_or loose i 0) one)
+    ∙ ap (λ b. list_any (λ inode. eqb inode one) (take i loose) || b) (tied_number (get_or loose i 0) one)
     ∙ sym (list_any_more (λ inode. eqb inode one) loose i 0 below)

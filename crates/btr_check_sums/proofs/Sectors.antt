@@ -4,9 +4,11 @@ use Rattle.std.proofs.lemmas.List.Elements.{filter_map-append}
 use Rattle.std.proofs.lemmas.List.FromFn.{length-map-range_with_len, get_or-map-range_with_len}
 use Rattle.btr_findings.specs.Sectors.{sectors}
 
+-- a list of so many sectors has that length
 pub sectors_long : (start count : ℕ) → length (sectors start count) ≡ count
 sectors_long start count = length-map-range_with_len (λ i. start + i * 4096) 0 count
 
+-- the sector at a place stands so many times 4096 bytes behind the first one
 pub sector_at : (start count i : ℕ) → i < count → get_or (sectors start count) i 0 ≡ start + i * 4096
 sector_at start count i below = get_or-map-range_with_len (λ i. start + i * 4096) 0 count i i 0 below (omega arith)
 

@@ -2,7 +2,7 @@
 ghost use Rattle.std.specs.Prelude.{ℕ, ◌+◌, ◌*◌, ◌<◌, ◌≤◌, ◌^◌, Bool, filter_map, OnOk};
 ghost use Rattle.btr_findings.specs.Findings.{Adds};
 ghost use Rattle.btr_findings.specs.Sectors.{sectors};
-ghost use Rattle.btr_check_space.specs.AddressRanges.{Reaches};
+ghost use Rattle.btr_check_space.specs.AddressRanges.{HoldsUpTo};
 ghost use Rattle.btr_check_sums.specs.Broken.{broken, broken_if};
 
 use btr_base::Memory;
@@ -16,7 +16,7 @@ pub(crate) trait SectorTest {
     /// Whether the sector at an address passes, and up to before which address all pass, or none does.
     fn reach(&self, sector: u128) -> Reach
         requires { sector < 2 ^ 127 }
-        ensures { Reaches (keeps self.now) sector result };
+        ensures { HoldsUpTo (keeps self.now) sector result };
 }
 
 // How many sectors from an address on begin before another, at most so many.

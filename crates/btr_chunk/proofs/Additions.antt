@@ -28,18 +28,22 @@ pub OnOk-always : {T E P : Type 0} (r : Result T E) → P → OnOk r P
 OnOk-always (Ok x) fact = fact
 OnOk-always (Err e) fact = tt
 
+-- what holds anyway holds where a call failed
 pub OnErr-always : {T E P : Type 0} (r : Result T E) → P → OnErr r P
 OnErr-always (Ok x) fact = tt
 OnErr-always (Err e) fact = fact
 
+-- a fact of failed calls holds where the call failed
 pub at-OnErr : {T E P : Type 0} (r : Result T E) → is_err r ≡ true → OnErr r P → P
 at-OnErr (Ok x) err fact = absurd (false≢true err)
 at-OnErr (Err e) err fact = fact
 
+-- a fact of successful calls holds where the call did not fail
 pub at-OnOk : {T E P : Type 0} (r : Result T E) → is_err r ≡ false → OnOk r P → P
 at-OnOk (Ok x) ok fact = fact
 at-OnOk (Err e) ok fact = absurd (true≢false ok)
 
+-- what is there has a value
 some_from : {X : Type 0} (o : Option X) → IsSome o → (x : X) × (o ≡ Some x)
 some_from None is = absurd (false≢true is)
 some_from (Some x) is = (x, refl)
@@ -94,6 +98,7 @@ pub record Gains (f f' : ℕ → Option Chunk) (chunk : Chunk) : Type 0 where
   pub here : f' chunk.start ≡ Some chunk
   pub others : (k : ℕ) → k ≢ chunk.start → f' k ≡ f k
 
+-- an entry that is put in where there was none is gained
 pub Gains-insert : (f f' : ℕ → Option Chunk) (chunk : Chunk) → f chunk.start ≡ None
     → ((k : ℕ) → f' k ≡ cond (is_eq (nat_cmp chunk.start k)) (Some chunk) (f k)) → Gains f f' chunk
 Gains-insert f f' chunk absent inserted = record {
@@ -103,6 +108,7 @@ Gains-insert f f' chunk absent inserted = record {
   others = λ k differ. inserted k ∙ cond-false (is_eq (nat_cmp chunk.start k)) (Some chunk) (f k) (apart k differ);
 }
   where
+    -- another start does not compare as equal
     apart : (k : ℕ) → k ≢ chunk.start → is_eq (nat_cmp chunk.start k) ≡ false
     apart k differ =
         elim (cases_order chunk.start k) [
@@ -120,6 +126,7 @@ gained f f' chunk gains k c there =
       | inr differ ↦ inr (differ, sym (gains.others k differ) ∙ there)
     ]
 
+-- with one more chunk that is apart from all, the chunks still keep their rules
 pub AreChunks-gains : (f f' : ℕ → Option Chunk) (chunk : Chunk) → Gains f f' chunk → AreChunks f → IsChunk chunk
     → some_meet (stripe_length chunk) chunk.stripes ≡ false
     → ((k : ℕ) (c : Chunk) → f k ≡ Some c → chunks_meet chunk c ≡ false) → AreChunks f'
@@ -142,6 +149,7 @@ AreChunks-gains f f' chunk gains index is spread apart = record {
   ];
 }
 
+-- with one more chunk's stripes entered, the ranges of devices are those of all chunks' stripes
 pub AreStripes-gains : (f f' : ℕ → Option Chunk) (g g' : StripePlace → Option ℕ) (chunk : Chunk) → Gains f f' chunk → AreChunks f → AreStripes f g
     → IsChunk chunk
     → ((k : ℕ) (c : Chunk) → f k ≡ Some c → chunks_meet chunk c ≡ false)
@@ -164,6 +172,7 @@ AreStripes-gains f f' g g' chunk gains index stripes is apart entered = record {
   owned = λ q n at. owner q n at (has_stripe_at q chunk.stripes) refl;
 }
   where
+    -- a range of a device is one of the new chunk's stripes, or was owned before
     owner : (q : StripePlace) (n : ℕ) → g' q ≡ Some n → (b : Bool) → has_stripe_at q chunk.stripes ≡ b → IsStripe f' q n
     owner q n at true has =
         let found = Passes-list_any (is_stripe_at q) chunk.stripes has in

@@ -37,6 +37,7 @@ module _ (chunks : List Chunk) (place : StripePlace) (table : IsTable chunks) wh
       false≢true (sym apart.1 ∙ chunks_meet-stripes a.chunk b.chunk k l a.stripe b.stripe a.stripe_there b.stripe_there
       (sharing place (stripe_length a.chunk) a.stripe (stripe_length b.chunk) b.stripe a.inside b.inside))
 
+  -- a byte of a device lies in one chunk at most
   same_chunk : (i j k l : ℕ) → LiesIn chunks place i k → LiesIn chunks place j l → i ≡ j
   same_chunk i j k l a b = elim (cases_order i j) [
     | inl e ↦ e
@@ -53,6 +54,7 @@ module _ (chunks : List Chunk) (place : StripePlace) (table : IsTable chunks) wh
       false≢true (sym (some_meet-apart (stripe_length a.chunk) a.chunk.stripes (table.sound i a.chunk a.there).1 k l a.stripe b.stripe lt a.stripe_there there)
       ∙ sharing place (stripe_length a.chunk) a.stripe (stripe_length a.chunk) b.stripe a.inside inside)
 
+  -- a byte of a device lies in one stripe of a chunk at most
   same_stripe : (i k l : ℕ) → LiesIn chunks place i k → LiesIn chunks place i l → k ≡ l
   same_stripe i k l a b = elim (cases_order k l) [
     | inl e ↦ e
@@ -60,6 +62,7 @@ module _ (chunks : List Chunk) (place : StripePlace) (table : IsTable chunks) wh
     | inr (inr gt) ↦ absurd (not_earlier i l k b a gt)
   ]
 
+-- each byte of a device lies in one stripe of one chunk at most
 pub stripes_apart : StripesApart
 stripes_apart chunks place i j k l table a b =
     let e = same_chunk chunks place table i j k l a b in
@@ -68,18 +71,20 @@ stripes_apart chunks place i j k l table a b =
 -- ---- parts
 
 -- the stripe of a part hangs on the row alone
-stripe-row : (p : Profile) (n : ℕ) (q : Part) (at bt : Elements) → mirror_count p n ≡ None → at.row ≡ bt.row → stripe_of p n q at ≡ stripe_of p n q bt
+pub stripe-row : (p : Profile) (n : ℕ) (q : Part) (at bt : Elements) → mirror_count p n ≡ None → at.row ≡ bt.row → stripe_of p n q at ≡ stripe_of p n q bt
 stripe-row p n q at bt none e = elim (without_copies p n none) [
   | inl five ↦ subst (λ p. stripe_of p n q at ≡ stripe_of p n q bt) (sym five) (with_five q)
   | inr six ↦ subst (λ p. stripe_of p n q at ≡ stripe_of p n q bt) (sym six) (with_six q)
 ]
   where
+    -- in RAID5 the stripe of a part hangs on the row alone
     with_five : (q : Part) → stripe_of Raid5 n q at ≡ stripe_of Raid5 n q bt
     with_five (Mirror i) = refl
     with_five (Slice i) = ap (λ r. (r + i) % n) e
     with_five P = ap (λ r. (r + (n - 1)) % n) e
     with_five Q = refl
 
+    -- in RAID6 the stripe of a part hangs on the row alone
     with_six : (q : Part) → stripe_of Raid6 n q at ≡ stripe_of Raid6 n q bt
     with_six (Mirror i) = refl
     with_six (Slice i) = ap (λ r. (r + i) % n) e
@@ -97,6 +102,7 @@ record IsAt (chunks : List Chunk) (place : StripePlace) (i row rest : ℕ) (part
   offset : place.offset ≡ stripe.offset + row * 65536 + rest
   lies : LiesIn chunks place i (stripe_of c.chunk.profile (length c.chunk.stripes) part (in_row row rest))
 
+-- a byte of a part of a row lies on the part's stripe, at the row's element and the byte's offset
 is_at : (chunks : List Chunk) (place : StripePlace) (i row rest : ℕ) (part : Part) → IsTable chunks → (c : IsOfPart chunks place i row rest part)
     → IsAt chunks place i row rest part c
 is_at chunks place i row rest part table c =
@@ -116,6 +122,7 @@ is_at chunks place i row rest part table c =
       };
     }
 
+-- each byte of a device is of one part of one row at most, and at one offset there
 pub parts_apart : PartsApart
 parts_apart chunks place i j row other rest also part another table a b =
     let x = is_at chunks place i row rest part table a in
@@ -146,7 +153,7 @@ parts_apart chunks place i j row other rest also part another table a b =
 -- ---- copies
 
 -- where there are copies, a position's own part is its copy
-own : (p : Profile) (n copy : ℕ) (at : Elements) → IsSomeAnd (mirror_count p n) (λ m. copy < m) → data_part p copy at ≡ Mirror copy
+pub own : (p : Profile) (n copy : ℕ) (at : Elements) → IsSomeAnd (mirror_count p n) (λ m. copy < m) → data_part p copy at ≡ Mirror copy
 own Single n copy at h = refl
 own Dup n copy at h = refl
 own Raid0 n copy at h = refl
@@ -170,14 +177,17 @@ copy_of Raid10 n c d at bt h g e = omega (arith, h, g, e)
 copy_of Raid5 n c d at bt h g e = absurd h
 copy_of Raid6 n c d at bt h g e = absurd h
 
+-- where something holds of a stripe, there is one
 some_at : (o : Option Stripe) (Is : Stripe → Type 0) → IsSomeAnd o Is → (s : Stripe) × (o ≡ Some s) × Is s
 some_at None Is h = absurd h
 some_at (Some s) Is h = (s, refl, h)
 
+-- a copy that is below the number of copies is so where there is such a number
 some_less : (o : Option ℕ) (c : ℕ) → IsSomeAnd o (λ m. c < m) → IfSome o (λ m. c < m)
 some_less None c h = tt
 some_less (Some m) c h = h
 
+-- a byte of a copy lies on the stripe of that copy
 lies : (chunks : List Chunk) (place : StripePlace) (i copy addr : ℕ) → IsTable chunks → (c : IsOfCopy chunks place i copy addr)
     → LiesIn chunks place i (stripe_of c.chunk.profile (length c.chunk.stripes) (Mirror copy) (position_of c.chunk addr))
 lies chunks place i copy addr table c =
@@ -191,6 +201,7 @@ lies chunks place i copy addr table c =
     ap (λ q. place_at c.chunk q at) (sym (own c.chunk.profile (length c.chunk.stripes) copy at c.copies)) ∙ c.at in
     record { chunk = c.chunk; there = c.there; stripe = s.0; stripe_there = s.1; inside = subst (λ p. IsInStripe (stripe_length c.chunk) s.0 p 1) here s.2 }
 
+-- each byte of a device is that of one address in one copy at most
 pub copies_apart : CopiesApart
 copies_apart chunks place i j copy other addr also table a b =
     let both = stripes_apart chunks place i j (stripe_of a.chunk.profile (length a.chunk.stripes) (Mirror copy) (position_of a.chunk addr))

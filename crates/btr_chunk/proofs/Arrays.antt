@@ -20,6 +20,7 @@ pub array_after-empty : (n : ℕ) (chunks : List Chunk) (bytes : List ℕ) → l
 array_after-empty zero chunks bytes none = refl
 array_after-empty (suc n) chunks bytes none = rw (eq-eqb (length bytes) 0 none) refl
 
+-- after a first part, reading goes on alike where the rests are alike
 and_then-same : (r : Result (List Chunk) ArrayFault) (f g : List Chunk → Result (List Chunk) ArrayFault) → ((more : List Chunk) → f more ≡ g more)
     → and_then r f ≡ and_then r g
 and_then-same (Ok more) f g same = same more
@@ -44,6 +45,7 @@ pub array_after-more : (chunks : List Chunk) (bytes : List ℕ) (more : List Chu
     → array_after (length bytes) chunks bytes ≡ array_after (length (drop (pair_size bytes) bytes)) more (drop (pair_size bytes) bytes)
 array_after-more chunks bytes more some first = by_length (length bytes) refl
   where
+    -- by the number of bytes, an array whose first pair is read goes on behind that pair
     by_length : (n : ℕ) → length bytes ≡ n → array_after n chunks bytes
         ≡ array_after (length (drop (pair_size bytes) bytes)) more (drop (pair_size bytes) bytes)
     by_length zero none = absurd (omega arith)
@@ -57,6 +59,7 @@ pub array_after-refused : (chunks : List Chunk) (bytes : List ℕ) (fault : Arra
     → array_after (length bytes) chunks bytes ≡ Err fault
 array_after-refused chunks bytes fault some first = by_length (length bytes) refl
   where
+    -- by the number of bytes, an array whose first pair is refused is refused
     by_length : (n : ℕ) → length bytes ≡ n → array_after n chunks bytes ≡ Err fault
     by_length zero none = absurd (omega arith)
     by_length (suc n) long = rw (ne_eqb (length bytes) 0 (λ none. omega arith), first) refl

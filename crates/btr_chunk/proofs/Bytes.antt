@@ -19,6 +19,7 @@ use Rattle.btr_chunk.proofs.Overlaps.{some_meet-apart}
 use Rattle.btr_chunk.proofs.Rows.{stripe_of-turned, turn-same}
 use Rattle.btr_chunk.proofs.Rule.{facts, data_count-mirrored, position-rows}
 
+-- what is not there is none
 none_is : {X : Type 0} (o : Option X) → IsNone o → o ≡ None
 none_is None none = refl
 none_is (Some x) none = absurd (true≢false none)
@@ -63,6 +64,7 @@ pub record Placed (chunk : Chunk) (part : Part) (at : Elements) : Type 0 where
   pub there : slice_get chunk.stripes (stripe_of chunk.profile (length chunk.stripes) part at) ≡ Some stripe
   pub place : place_at chunk part at ≡ place_on stripe at
 
+-- a part of a position has its stripe in the chunk, and its place on that stripe
 pub placed_part : (chunk : Chunk) (part : Part) (at : Elements) → IsChunk chunk → HasPart chunk.profile (length chunk.stripes) part
     → IsPosition chunk at → Placed chunk part at
 placed_part chunk part at is has position =
@@ -130,13 +132,14 @@ stripe-same len stripes i j s t a b spread here there device within too same =
           ∙ some_meet-apart len stripes spread j i t s above there here))
     ]
   where
+    -- stripes of one device with a byte in common meet
     meets : (x y : Stripe) → x.devid ≡ y.devid → x.offset < y.offset + len → y.offset < x.offset + len → stripes_meet len x len y ≡ true
     meets x y d one two =
         and_from (eqb x.devid y.devid) (ranges_meet x.offset len y.offset len) (eq-eqb _ _ d)
         (and_from (nat_lt x.offset (y.offset + len)) (nat_lt y.offset (x.offset + len)) (lt-ltb _ _ one) (lt-ltb _ _ two))
 
 -- the position of a byte in a profile with rows, and in one without
-striped-position : (chunk : Chunk) (addr : ℕ) → is_striped chunk.profile ≡ true
+pub striped-position : (chunk : Chunk) (addr : ℕ) → is_striped chunk.profile ≡ true
     → position chunk addr ≡ record {
       row = (addr - chunk.start) / 65536 / data_count chunk.profile (length chunk.stripes);
       index = (addr - chunk.start) / 65536 % data_count chunk.profile (length chunk.stripes);
@@ -144,6 +147,7 @@ striped-position : (chunk : Chunk) (addr : ℕ) → is_striped chunk.profile ≡
     }
 striped-position chunk addr striped = rw striped refl
 
+-- in a profile without rows a byte's position is its offset in the chunk
 mirrored-position : (chunk : Chunk) (addr : ℕ) → is_striped chunk.profile ≡ false
     → position chunk addr ≡ record { row = 0; index = 0; rest = addr - chunk.start }
 mirrored-position chunk addr mirrored = rw mirrored refl
@@ -156,6 +160,7 @@ IsPosition-position chunk addr is held =
     let to = ltb-true addr (chunk.start + chunk.length) both.1 in
     by_rows from to (is_striped chunk.profile) refl
   where
+    -- a chunk's byte has a position, with rows or without
     by_rows : chunk.start ≤ addr → addr < chunk.start + chunk.length → (b : Bool) → is_striped chunk.profile ≡ b → IsPosition chunk (position chunk addr)
     by_rows from to true striped = rw (striped-position chunk addr striped) (position-rows chunk (addr - chunk.start) is striped (omega arith))
     by_rows from to false mirrored =
@@ -171,6 +176,7 @@ position-same : (chunk : Chunk) (copy a b : ℕ) → IsChunk chunk → chunk.sta
     → a ≡ b
 position-same chunk copy a b is from too one two place stripe = by_rows (is_striped chunk.profile) refl
   where
+    -- two bytes at one position of the stripes are one, with rows or without
     by_rows : (c : Bool) → is_striped chunk.profile ≡ c → a ≡ b
     by_rows true striped =
         let pa = striped-position chunk a striped in

@@ -16,6 +16,7 @@ pub record AreApart (a b : Chunk) : Type 0 where
   pub bytes : (i j : ℕ) (s t : Stripe) → slice_get a.stripes i ≡ Some s → slice_get b.stripes j ≡ Some t
       → stripes_meet (stripe_length a) s (stripe_length b) t ≡ false
 
+-- chunks that do not meet share no address, and no two of their stripes a byte
 pub apart-chunks_meet : (a b : Chunk) → chunks_meet a b ≡ false → AreApart a b
 apart-chunks_meet a b apart =
     let parts = or_parts (ranges_meet a.start a.length b.start b.length)
@@ -27,6 +28,7 @@ apart-chunks_meet a b apart =
           (fails-list_any (λ s. list_any (stripes_meet (stripe_length a) s (stripe_length b)) b.stripes) a.stripes parts.1 i s here) j t there;
     }
 
+-- chunks that share no address and whose stripes share no byte do not meet
 pub chunks_meet-apart : (a b : Chunk) → AreApart a b → chunks_meet a b ≡ false
 chunks_meet-apart a b apart =
     or_from (ranges_meet a.start a.length b.start b.length) (list_any (λ s. list_any (stripes_meet (stripe_length a) s (stripe_length b)) b.stripes) a.stripes)
@@ -42,12 +44,14 @@ chunks_meet-stripes a b i j s t here there meets =
     (list_any-true (λ s. list_any (stripes_meet (stripe_length a) s (stripe_length b)) b.stripes) a.stripes i s here
     (list_any-true (stripes_meet (stripe_length a) s (stripe_length b)) b.stripes j t there meets))
 
+-- where one range does not meet another, the other does not meet it
 ranges_meet-turned : (a len b other : ℕ) → ranges_meet a len b other ≡ false → ranges_meet b other a len ≡ false
 ranges_meet-turned a len b other apart =
     false_from_ne_true (ranges_meet b other a len) (λ meets.
     let both = and_parts (nat_lt b (a + len)) (nat_lt a (b + other)) meets in
     true≢false (sym (and_from (nat_lt a (b + other)) (nat_lt b (a + len)) both.1 both.0) ∙ apart))
 
+-- where one stripe does not meet another, the other does not meet it
 pub stripes_meet-turned : (len : ℕ) (s : Stripe) (other : ℕ) (t : Stripe) → stripes_meet len s other t ≡ false → stripes_meet other t len s ≡ false
 stripes_meet-turned len s other t apart =
     false_from_ne_true (stripes_meet other t len s) (λ meets.
@@ -55,6 +59,7 @@ stripes_meet-turned len s other t apart =
     true≢false (sym (and_from (eqb s.devid t.devid) (ranges_meet s.offset len t.offset other) (eq-eqb s.devid t.devid (sym m.0))
     (and_from (nat_lt s.offset (t.offset + other)) (nat_lt t.offset (s.offset + len)) (lt-ltb _ _ m.2) (lt-ltb _ _ m.1))) ∙ apart))
 
+-- where one chunk does not meet another, the other does not meet it
 pub chunks_meet-turned : (a b : Chunk) → chunks_meet a b ≡ false → chunks_meet b a ≡ false
 chunks_meet-turned a b apart =
     let facts = apart-chunks_meet a b apart in

@@ -16,12 +16,15 @@ use Rattle.btr_chunk.proofs.Searches.{fails-list_any}
 pub nat_cmp-less : (a b : ℕ) → a < b → nat_cmp a b ≡ Less
 nat_cmp-less a b h = rw (lt-ltb a b h) refl
 
+-- equal numbers compare as equal
 pub nat_cmp-equal : (a b : ℕ) → a ≡ b → nat_cmp a b ≡ Equal
 nat_cmp-equal a b h = rw (le-ltb a b (omega arith), eq-eqb a b h) refl
 
+-- a number compares as greater than one below it
 pub nat_cmp-greater : (a b : ℕ) → b < a → nat_cmp a b ≡ Greater
 nat_cmp-greater a b h = rw (le-ltb a b (omega arith), ne_eqb a b (λ e. omega arith)) refl
 
+-- a number does not compare as greater than one that is not below it
 pub not_greater : (a b : ℕ) → a ≤ b → is_gt (nat_cmp a b) ≡ false
 not_greater a b h =
     elim (cases_order a b) [
@@ -91,6 +94,7 @@ pub undone : {T E : Type 0} (r : Result T E) (p : StripePlace) (len : ℕ) (f g 
 undone r p len f g after h free entered failed taken =
     on_err_weaker r (λ same q. by_test q (same q) (is_eq (place_cmp p q)) refl) failed
   where
+    -- at each place the ranges are as they were, whether it is the one that was entered or not
     by_test : (q : StripePlace) → after q ≡ g q → (b : Bool) → is_eq (place_cmp p q) ≡ b → h q ≡ f q
     by_test q same true is =
         let one = place_cmp-same p q is in

@@ -76,5 +76,6 @@ NoneMeets-last f len s p n spaced there less last ends = λ q m at.
           omega arith
     ])
   where
+    -- a place on an earlier device comes before
     earlier_device : (a b : StripePlace) → a.devid < b.devid → place_cmp a b ≡ Less
     earlier_device a b below = rw (nat_cmp-less _ _ below) refl

@@ -22,6 +22,7 @@ turn-apart q i j n below within same =
       | inr less ↦ let gap = mul-le b n a n less (omega arith) in omega arith
     ]
 
+-- places of a row that turn to one stripe are one
 pub turn-same : (q i j n : ℕ) → i < n → j < n → (q + i) % n ≡ (q + j) % n → i ≡ j
 turn-same q i j n one two same =
     elim (cases_order i j) [
@@ -58,6 +59,7 @@ place_in_row _ _ _ = 0
 some_none : {X : Type 0} (x : X) → Some x ≡ None → ⊥
 some_none x same = cc
 
+-- RAID5 is not RAID6
 five_six : Raid5 ≡ Raid6 → ⊥
 five_six same = cc
 

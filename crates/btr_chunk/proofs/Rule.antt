@@ -9,7 +9,7 @@ use Rattle.btr_chunk.specs.declared.chunk.Chunk.{Chunk}
 use Rattle.btr_chunk.specs.declared.profile.Profile.{Profile}
 use Rattle.btr_chunk.specs.declared.profile.Profile.TheVariants.{Single, Dup, Raid0, Raid1, Raid1c3, Raid1c4, Raid10, Raid5, Raid6}
 use Rattle.btr_chunk.specs.Chunk.{IsChunk, has_count, is_striped, data_count, unit_of, stripe_length, is_stripe}
-use Rattle.btr_chunk.specs.Mapping.{IsPosition, Reaches}
+use Rattle.btr_chunk.specs.Mapping.{IsPosition, LieInOnePiece}
 
 -- what each chunk keeps
 pub record Facts (chunk : Chunk) : Type 0 where
@@ -30,6 +30,7 @@ six true true true false e f h = absurd (true≢false (sym h))
 six true true true true false f h = absurd (true≢false (sym h))
 six true true true true true false h = absurd (true≢false (sym h))
 
+-- a chunk that keeps the rule keeps each part of it
 pub facts : (chunk : Chunk) → IsChunk chunk → Facts chunk
 facts chunk is =
     let n = length chunk.stripes in
@@ -120,7 +121,7 @@ position-rows chunk o is striped below =
 
 -- bytes within an element lie inside its stripe
 pub reaches-rows : (chunk : Chunk) (o size : ℕ) → IsChunk chunk → is_striped chunk.profile ≡ true → o < chunk.length → o % 65536 + size ≤ 65536
-    → Reaches chunk (record {
+    → LieInOnePiece chunk (record {
       row = o / 65536 / data_count chunk.profile (length chunk.stripes);
       index = o / 65536 % data_count chunk.profile (length chunk.stripes);
       rest = o % 65536;
@@ -142,6 +143,7 @@ quotient-stripe_length len d unit some filled any whole =
     let long : 0 < m * unit = pos_of_product len (m * unit) d any (omega arith) in
     ap (λ n. len / n) stripe ∙ ap (λ n. n / (m * unit)) turned ∙ div-mul-add d (m * unit) 0 long
   where
+    -- the first factor of a positive product is positive
     pos_of_product : (n a b : ℕ) → 0 < n → n ≡ a * b → 0 < a
     pos_of_product n zero b any e = omega arith
     pos_of_product n (suc a) b any e = omega arith
@@ -166,6 +168,7 @@ data_count-quotient chunk is =
 pub stripe_length-some : (chunk : Chunk) → IsChunk chunk → 0 < stripe_length chunk
 stripe_length-some chunk is = by_rows (is_striped chunk.profile) refl
   where
+    -- each stripe has some byte, with rows or without
     by_rows : (b : Bool) → is_striped chunk.profile ≡ b → 0 < stripe_length chunk
     by_rows true striped =
         let f = facts chunk is in

@@ -11,6 +11,7 @@ pub record Passes {X : Type 0} (p : X → Bool) (xs : List X) : Type 0 where
   pub there : slice_get xs place ≡ Some element
   pub passes : p element ≡ true
 
+-- where some element passes, there is one that does
 pub Passes-list_any : {X : Type 0} (p : X → Bool) (xs : List X) → list_any p xs ≡ true → Passes p xs
 Passes-list_any p [] any = absurd (false≢true any)
 Passes-list_any {X} p (x ∷ xs) any =
@@ -22,16 +23,19 @@ Passes-list_any {X} p (x ∷ xs) any =
       | inr tail ↦ later tail
     ]
 
+-- where none passes, each element fails
 pub fails-list_any : {X : Type 0} (p : X → Bool) (xs : List X) → list_any p xs ≡ false → (i : ℕ) (x : X) → slice_get xs i ≡ Some x → p x ≡ false
 fails-list_any p [] none i x there = cc
 fails-list_any p (y ∷ ys) none zero x there = let same : y ≡ x = cc in rw (← same) (or_parts _ _ none).0
 fails-list_any p (y ∷ ys) none (suc i) x there = fails-list_any p ys (or_parts _ _ none).1 i x there
 
+-- where an element passes, some does
 pub list_any-true : {X : Type 0} (p : X → Bool) (xs : List X) (i : ℕ) (x : X) → slice_get xs i ≡ Some x → p x ≡ true → list_any p xs ≡ true
 list_any-true p [] i x there passes = cc
 list_any-true p (y ∷ ys) zero x there passes = let same : y ≡ x = cc in or_left (p y) (list_any p ys) (ap p same ∙ passes)
 list_any-true p (y ∷ ys) (suc i) x there passes = or_right (p y) (list_any p ys) (list_any-true p ys i x there passes)
 
+-- where each element fails, none passes
 pub list_any-false : {X : Type 0} (p : X → Bool) (xs : List X) → ((i : ℕ) (x : X) → slice_get xs i ≡ Some x → p x ≡ false) → list_any p xs ≡ false
 list_any-false p [] none = refl
 list_any-false p (y ∷ ys) none = or_from _ _ (none 0 y refl) (list_any-false p ys (λ i x there. none (suc i) x there))
@@ -59,6 +63,7 @@ find-first p (y ∷ ys) zero x there passes before = let same : y ≡ x = cc in 
 find-first p (y ∷ ys) (suc i) x there passes before =
     rw (before 0 y (omega arith) refl) (find-first p ys i x there passes (λ j z lt at. before (suc j) z (omega (arith, lt)) at))
 
+-- where each element fails, none is found
 pub find-none : {X : Type 0} (p : X → Bool) (xs : List X) → ((j : ℕ) (y : X) → slice_get xs j ≡ Some y → p y ≡ false) → find p xs ≡ None
 find-none p [] none = refl
 find-none p (y ∷ ys) none = rw (none 0 y refl) (find-none p ys (λ j z at. none (suc j) z at))

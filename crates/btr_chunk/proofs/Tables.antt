@@ -16,7 +16,7 @@ use Rattle.btr_chunk.specs.Chunk.{stripe_length}
 use Rattle.btr_chunk.specs.Mapping.{holds}
 use Rattle.btr_chunk.specs.Extents.{ranges_meet, meets_range, IsSpaced}
 use Rattle.btr_chunk.specs.Table.{stripes_meet, chunks_meet, some_meet, same_stripe, same_chunk, overlaps, chunk_at, next_at, IsTable}
-use Rattle.btr_chunk.specs.Index.{start_of, AreChunks, AreStripes, IsFirst, IsLast, SharesAddress, SharesNone, SharesRange, SharesNoRange}
+use Rattle.btr_chunk.specs.Index.{start_of, AreChunks, AreStripes, IsNextChunk, IsLast, SharesAddress, SharesNone, SharesRange, SharesNoRange}
 use Rattle.btr_chunk.proofs.Rule.{facts}
 use Rattle.btr_chunk.proofs.Searches.{list_any-true, list_any-false, find-only, find-first, find-none}
 use Rattle.btr_chunk.proofs.Values.{entry-values_of, start_of-values, values-start_of, keys-below}
@@ -101,6 +101,7 @@ SharesAddress-last f chunk c index last some reaches =
       meets = and_from (nat_lt chunk.start (c.start + c.length)) (nat_lt c.start (chunk.start + chunk.length)) (lt-ltb _ _ reaches) (lt-ltb _ _ (omega arith));
     }
 
+-- ranges that meet begin before each other's ends
 shared : (a b : Chunk) → ranges_meet a.start a.length b.start b.length ≡ true → (a.start < b.start + b.length) × (b.start < a.start + a.length)
 shared a b meets =
     let both = and_parts (nat_lt a.start (b.start + b.length)) (nat_lt b.start (a.start + a.length)) meets in
@@ -242,6 +243,7 @@ pub same-there : (m : BTreeMap ℕ Chunk) (chunk there : Chunk) → AreChunks (s
     → same_chunk chunk there ≡ list_any (same_chunk chunk) (values m)
 same-there m chunk there index ordered found = by_test (same_chunk chunk there) refl
   where
+    -- the table has an equal chunk just where the one of that start is equal
     by_test : (b : Bool) → same_chunk chunk there ≡ b → same_chunk chunk there ≡ list_any (same_chunk chunk) (values m)
     by_test true same =
         let at = values-start_of m chunk.start there found in
@@ -286,7 +288,7 @@ IsTable-values m index ordered few = record {
 
 -- the first chunk at or behind an address
 pub next_at-first : (m : BTreeMap ℕ Chunk) (addr : ℕ) (c : Chunk) → AreChunks (start_of m) → IsOrdered nat_cmp m → length m.entries ≤ 65536
-    → IsFirst (start_of m) addr c → next_at (values m) addr ≡ Some c
+    → IsNextChunk (start_of m) addr c → next_at (values m) addr ≡ Some c
 next_at-first m addr c index ordered few first =
     let table = IsTable-values m index ordered few in
     let start = index.keyed first.start c first.there in
@@ -302,6 +304,7 @@ next_at-first m addr c index ordered few first =
     let gone = first.first key.0 (omega (arith, from, y_start)) (omega (arith, before, some, y_start, start)) in
     cc))
 
+-- where no chunk starts at or behind an address, none is next
 pub next_at-none : (m : BTreeMap ℕ Chunk) (addr : ℕ) → AreChunks (start_of m) → IsOrdered nat_cmp m
     → ((k : ℕ) → addr ≤ k → start_of m k ≡ None) → next_at (values m) addr ≡ None
 next_at-none m addr index ordered none =

@@ -57,7 +57,7 @@ abbrev pub AnswersLast : (ℕ → Option Chunk) → ℕ → Option (Bor Chunk) �
 AnswersLast f addr answer = MatchOption answer ((k : ℕ) → k ≤ addr → f k ≡ None) (λ chunk. IsLast f addr chunk.now)
 
 -- the first chunk that starts at or behind an address
-pub record IsFirst (f : ℕ → Option Chunk) (addr : ℕ) (chunk : Chunk) : Type 0 where
+pub record IsNextChunk (f : ℕ → Option Chunk) (addr : ℕ) (chunk : Chunk) : Type 0 where
   pub start : ℕ
   pub there : f start ≡ Some chunk
   pub behind : addr ≤ start
@@ -65,7 +65,7 @@ pub record IsFirst (f : ℕ → Option Chunk) (addr : ℕ) (chunk : Chunk) : Typ
 
 -- the answer is the first chunk that starts at or after an address, if there is one
 abbrev pub AnswersFirst : (ℕ → Option Chunk) → ℕ → Option (Bor Chunk) → Type 0
-AnswersFirst f addr answer = MatchOption answer ((k : ℕ) → addr ≤ k → f k ≡ None) (λ chunk. IsFirst f addr chunk.now)
+AnswersFirst f addr answer = MatchOption answer ((k : ℕ) → addr ≤ k → f k ≡ None) (λ chunk. IsNextChunk f addr chunk.now)
 
 -- a chunk shares a logical address with one of the chunks
 pub record SharesAddress (f : ℕ → Option Chunk) (chunk : Chunk) : Type 0 where

@@ -44,7 +44,7 @@ pub record IsPosition (chunk : Chunk) (at : Elements) : Type 0 where
 
 -- some bytes from a position on lie in one piece on a stripe: in an element
 -- where the profile has rows, and in the stripe
-pub record Reaches (chunk : Chunk) (at : Elements) (size : ℕ) : Type 0 where
+pub record LieInOnePiece (chunk : Chunk) (at : Elements) (size : ℕ) : Type 0 where
   pub inside : at.row * 65536 + at.rest + size ≤ stripe_length chunk
   pub element : is_striped chunk.profile ≡ true → at.rest + size ≤ 65536
 

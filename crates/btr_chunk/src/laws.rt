@@ -1,7 +1,7 @@
 // Laws of chunks and places: each holds for all chunks, and its body does nothing.
 ghost use Rattle.std.specs.Prelude.{◌≡◌, ◌/◌, ◌<◌, length, slice_get, None, IfSome, IsSomeAnd, true, false};
 ghost use Rattle.btr_chunk.specs.Chunk.{IsChunk, stripe_length, data_count, mirrors};
-ghost use Rattle.btr_chunk.specs.Mapping.{HasPart, PartOn, IsPosition, IsInStripe, Reaches, holds, stripe_of, place_at, data_place};
+ghost use Rattle.btr_chunk.specs.Mapping.{HasPart, PartOn, IsPosition, IsInStripe, LieInOnePiece, holds, stripe_of, place_at, data_place};
 ghost use Rattle.btr_chunk.specs.Table.{some_meet};
 ghost use Rattle.btr_chunk.specs.Apart.{StripesApart, PartsApart, CopiesApart};
 
@@ -38,7 +38,7 @@ pub fn place_inside(chunk: &Chunk, part: Part, at: &Elements, len: u64)
     requires chunk { IsChunk chunk.now }
     requires part { HasPart chunk.now.profile (length chunk.now.stripes) part }
     requires at { IsPosition chunk.now at.now }
-    requires reach { Reaches chunk.now at.now len }
+    requires reach { LieInOnePiece chunk.now at.now len }
     ensures { IsSomeAnd
         (slice_get chunk.now.stripes (stripe_of chunk.now.profile (length chunk.now.stripes) part at.now))
         (λ stripe. IsInStripe (stripe_length chunk.now) stripe (place_at chunk.now part at.now) len) }

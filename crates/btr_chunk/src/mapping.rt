@@ -1,7 +1,7 @@
 // From logical addresses to places on devices.
 ghost use Rattle.std.specs.Prelude.{◌≡◌, ◌<◌, length, IfOk};
 ghost use Rattle.btr_chunk.specs.Chunk.{IsChunk};
-ghost use Rattle.btr_chunk.specs.Mapping.{elements_of, stripe_of, place_at, IsPosition, Reaches, HasPart};
+ghost use Rattle.btr_chunk.specs.Mapping.{elements_of, stripe_of, place_at, IsPosition, LieInOnePiece, HasPart};
 
 use crate::chunk::ELEMENT;
 use crate::{Chunk, Elements, Part, Profile, StripePlace};
@@ -21,7 +21,7 @@ pub fn elements(chunk: &Chunk, addr: u64, len: u64) -> Result<Elements, MapFault
     requires { IsChunk chunk.now }
     ensures value { result ≡ elements_of chunk.now addr len }
     ensures position { IfOk result (IsPosition chunk.now) }
-    ensures reach { IfOk result (λ at. Reaches chunk.now at len) }
+    ensures reach { IfOk result (λ at. LieInOnePiece chunk.now at len) }
 {
     if addr < chunk.start || addr - chunk.start >= chunk.length {
         return Err(MapFault::Unmapped);

@@ -20,15 +20,19 @@ use Rattle.btr_dump.specs.Pieces.{Text, Asked, tree_shown, found_tree}
 use Rattle.btr_dump.specs.Showing.{part, TextRun, AskedFollows, StopFollows, PutsText, PutsAsked}
 
 module _ (Is : UnreadBlock → Want → Type 0) (B : Map) (kind : SumKind) (id : ℕ) (lookup : Lookup (Option TreeRoot)) where
+  -- the text of the tree that a lookup finds, or that there is none
   abbrev asked : Asked
   asked = looks lookup (found_tree kind id)
 
+  -- the run of the lookup
   abbrev looked : TextRun (Option TreeRoot)
   looked = exec B (quiet lookup)
 
+  -- the run of what comes of what was found
   abbrev next : Option TreeRoot → TextRun (Option ℕ)
   next found = exec B (found_tree kind id found)
 
+  -- what follows the lookup and what comes of it, one after the other, follows the whole
   of_parts : (done : List Text) (ans : Result (Option ℕ) (Halt fate.Fault UnreadBlock)) → Follows Is part [] (and_then looked next) done ans
       → Follows Is part [] (exec B asked) done ans
   of_parts done ans f = subst (λ r. Follows Is part [] r done ans) (sym (exec-bind B (quiet lookup) (found_tree kind id))) f
@@ -42,6 +46,7 @@ module _ (Is : UnreadBlock → Want → Type 0) (B : Map) (kind : SumKind) (id :
     follows = of_parts [] (Err (halt_of f)) (follows_halt Is part [] looked next [] (halt_of f) (follows_quiet Is part [] B lookup [] (Err (halt_of f)) h));
   }
 
+  -- where the lookup found something or nothing, what follows what comes of that follows the whole
   found_then : (found : Option TreeRoot) (done : List Text) (ans : Result (Option ℕ) (Halt fate.Fault UnreadBlock))
       → Follows {S = ⊥} Is no_part [] (exec B lookup) [] (Ok found) → Follows Is part [] (next found) done ans → Follows Is part [] (exec B asked) done ans
   found_then found done ans h g =
@@ -61,16 +66,20 @@ module _ (Is : UnreadBlock → Want → Type 0) (B : Map) (kind : SumKind) (id :
       shown : TextRun (Unit {0})
       shown = exec B (tree_shown kind root)
 
+      -- what comes of a tree that was found is its text, and then that there was one
       whole_is : next (Some root) ≡ and_then shown (λ u. run [] (Ok None))
       whole_is = exec-bind B (tree_shown kind root) (λ u. Return None)
 
+      -- a want that couldn't be read by the tree's calls couldn't be by all calls
       weak : (ans : Result (Unit {0}) (Halt fate.Fault UnreadBlock)) → Follows Later part [] shown p.done ans → Follows Is part [] shown p.done ans
       weak ans f = follows_as Later Is weaker part [] shown p.done ans f
 
+      -- where the tree's text was put to its end, the whole was
       all : Follows Later part [] shown p.done (Ok tt) → Follows Is part [] (exec B asked) p.done (Ok None)
       all f = found_then (Some root) p.done (Ok None) h (subst (λ r. Follows Is part [] r p.done (Ok None)) (sym whole_is)
           (follows_value Is part [] (λ u. None) shown tt p.done (weak (Ok tt) f)))
 
+      -- what halts the tree's text halts the whole
       halts : (x : Halt fate.Fault UnreadBlock) → Follows Later part [] shown p.done (Err x) → Follows Is part [] (exec B asked) p.done (Err x)
       halts x f = found_then (Some root) p.done (Err x) h (subst (λ r. Follows Is part [] r p.done (Err x)) (sym whole_is)
           (follows_halt Is part [] shown (λ u. run [] (Ok None)) p.done x (weak (Err x) f)))

@@ -39,14 +39,17 @@ use Rattle.btr_volume.specs.declared.stop.Stop.TheVariants.{NoTree, Tree, Deleti
 use Rattle.btr_dump.specs.Pieces.{Text, held_block, held_in, block_shown, met_block}
 use Rattle.btr_dump.specs.Showing.{part, BlockAgreed, TellsBlock, CutIn, WroteAll, ShowsText}
 
+-- where the images are told, one fact about them gives another
 map_some : (held : Option (List (List ℕ))) (P Q : List (List ℕ) → Type 0) → ((images : List (List ℕ)) → P images → Q images) → IfSome held P → IfSome held Q
 map_some None P Q f p = tt
 map_some (Some images) P Q f p = f images p
 
+-- what holds of any images holds where some are told
 if_all : (held : Option (List (List ℕ))) (P : List (List ℕ) → Type 0) → ((images : List (List ℕ)) → P images) → IfSome held P
 if_all None P f = tt
 if_all (Some images) P f = f images
 
+-- where the images are told, two facts about them give a third
 both_some : (held : Option (List (List ℕ))) (P Q R : List (List ℕ) → Type 0) → ((images : List (List ℕ)) → P images → Q images → R images)
     → IfSome held P → IfSome held Q → IfSome held R
 both_some None P Q R f p q = tt
@@ -64,6 +67,7 @@ unfolding held_block
 held_cut layout before now seen B kind addr block node found old new waited waits e is cut =
     subst (λ n. ShowsText (unread_by layout before now) seen (exec B (held_block kind addr block n)) old new waited waits (Err (stop_of e))) is (by e)
   where
+    -- the output refused within the block's one piece
     within : CutIn (exec B (held_block kind addr block (Some found))) old new waited waits
     within = record {
       before = Does (block_text kind addr block) ∷ [];
@@ -96,6 +100,7 @@ pub writes_came : {A : Type 0} (Is : UnreadBlock → Want → Type 0) (B : Map) 
     → ShowsText Is [] (exec B (k bytes)) old new waited waits result → ShowsText Is [] (exec B (Need w k)) old new waited waits result
 writes_came {A} Is B w bytes k old new waited waits result is = by result
   where
+    -- what was written with an answer behind the want, was written with it from the want on
     behind : (answer : Result A (Halt fate.Fault UnreadBlock)) → WroteAll Is [] (exec B (k bytes)) old new waited waits answer
         → WroteAll Is [] (exec B (Need w k)) old new waited waits answer
     behind answer h = record {
@@ -105,6 +110,7 @@ writes_came {A} Is B w bytes k old new waited waits result is = by result
           (follows_alone Is part (w ∷ []) (exec B (k bytes)) h.done answer h.follows);
     }
 
+    -- a refusal of the output behind the want is one from the want on
     cut : CutIn (exec B (k bytes)) old new waited waits → CutIn (exec B (Need w k)) old new waited waits
     cut h = record {
       before = Wants w ∷ h.before;
@@ -127,9 +133,11 @@ writes_came {A} Is B w bytes k old new waited waits result is = by result
     by (Err Sink) h = absurd h
 
 module _ (layout : Layout) (old new : Seen) (kind : SumKind) (addr : ℕ) (reads : OnlyReads old new) where
+  -- which want is the one that couldn't be read
   abbrev Is : UnreadBlock → Want → Type 0
   Is = unread_by layout old new
 
+  -- by a block map, what was written, and the answer, follow the text of the block at the address
   abbrev Told : Option Text → Option Text → Text → Text → Result (Unit {0}) Stop → Map → Type 0
   Told was now waited waits result B = ShowsText Is [] (exec B (block_shown kind addr)) was now waited waits result
 
@@ -138,9 +146,11 @@ module _ (layout : Layout) (old new : Seen) (kind : SumKind) (addr : ℕ) (reads
       → FitsFetch layout (Block addr) old new store (Err fault) → TellsBlock layout addr old new (Told text text waits waits (Err (Tree (tree_fault fault))))
   block_failed text waits store fault fits = record { calls = record { same = same_held reads; later = reads.later; content = λ sure s. content fault fits } }
     where
+      -- where a fault follows the run with nothing done, so does writing nothing
       none : (f : TreeFault) (B : Map) → Follows Is part [] (exec B (block_shown kind addr)) [] (Err (halt_of f)) → Told text text waits waits (Err (Tree f)) B
       none f B h = record { done = []; wrote = wrote_nothing text waits; follows = h }
 
+      -- where the images are told, nothing was written, and the fault is that of the block's want
       content : (fault : ReadFault) → FitsFetch layout (Block addr) old new store (Err fault)
           → OnMap layout (Told text text waits waits (Err (Tree (tree_fault fault)))) First old.held
       content (read.Lost a) f = map_some old.held _ _ (λ images e. none (tree.Lost a) (fate_at images layout)
@@ -165,12 +175,15 @@ module _ (layout : Layout) (old new : Seen) (kind : SumKind) (addr : ℕ) (reads
   block_came was now waited waits store loan block result fits is written =
       record { calls = record { same = same_held reads; later = reads.later; content = content } }
     where
+      -- the bytes behind the loan are those that were fetched
       fetched : IsFetched layout (Block addr) old new block
       fetched = subst (λ o. IsSomeAnd o (IsFetched layout (Block addr) old new)) is fits.1
 
+      -- where the block map has the block's bytes, what was written is its text
       came : (B : Map) → B (Block addr) ≡ Ok block → Told was now waited waits result B
       came B e = writes_came Is B (Block addr) block (λ b. held_block kind addr b (held_in b)) was now waited waits result e (written B)
 
+      -- so far as what was read can be told, what was written is the block's text
       content : (sure : Sure) → calls.CanTell (BlockAgreed layout addr) sure (shown old) (shown new)
           → OnMap layout (Told was now waited waits result) sure old.held
       content First s = map_some old.held _ _ (λ images e. came (fate_at images layout) e) (fetched.first (omega (arith, s), omega (arith, s)))

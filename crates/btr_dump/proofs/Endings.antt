@@ -29,6 +29,7 @@ module _ (Is : UnreadBlock → Want → Type 0) (r : TextRun (Unit {0})) where
       (subst (Adds begun new) (sym (take-append-add w.wrote.put waits n) ∙ ap (take (length w.wrote.put + n)) all)
       (adds_twice begun mid new w.wrote.put (take n waits) w.wrote.adds adds))
 
+  -- where the output refused on the way nothing waits: what was put follows the run
   pub finish_cut : (begun new : Option Text) (waits : Text) (shown : Result (Unit {0}) Stop) → is_cut shown ≡ true
       → ShowsText Is [] r begun new [] waits shown → PutsText Is r begun new shown
   finish_cut begun new waits (Ok u) cut w = absurd (false≢true cut)
@@ -49,6 +50,7 @@ module _ (Is : UnreadBlock → Want → Type 0) (r : TextRun (Unit {0})) where
       → ShowsText Is [] r begun mid [] waits shown → Adds mid new (take n waits) → PutsText Is r begun new (Err (stop_of e))
   finish_refused begun mid new waits shown n e cut w adds = refused e (broke shown cut w)
     where
+      -- whatever the run answered, what was put is that of a run that was broken off
       broke : (shown : Result (Unit {0}) Stop) → is_cut shown ≡ false → ShowsText Is [] r begun mid [] waits shown → (done : List Text)
           × Adds begun new (whole done) × Follows Is part [] r done (Err Broke)
       broke (Ok u) cut w = some_put begun mid new waits n (Ok u) w (done_value Is r w.done u w.follows) adds
@@ -62,6 +64,7 @@ module _ (Is : UnreadBlock → Want → Type 0) (r : TextRun (Unit {0})) where
       broke (Err (Image slot)) cut w = absurd w
       broke (Err Sink) cut w = absurd w
 
+      -- a run that was broken off follows either refusal of the output
       refused : (e : SinkError) → (done : List Text) × Adds begun new (whole done) × Follows Is part [] r done (Err Broke)
           → PutsText Is r begun new (Err (stop_of e))
       refused sink.Failed b = record { done = b.0; adds = b.1; follows = b.2 }

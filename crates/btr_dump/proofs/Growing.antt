@@ -12,9 +12,11 @@ use Rattle.btr_volume.specs.declared.stop.Stop.TheVariants.{NoTree, Tree, Deleti
 use Rattle.btr_dump.specs.Pieces.{Text}
 use Rattle.btr_dump.specs.Showing.{Grows, TextRun, CutIn, ShowsText}
 
+-- an output to which nothing is put grows by nothing
 pub grows_none : (text : Option Text) → Grows text text
 grows_none text = record { more = []; adds = adds_nothing text }
 
+-- what stays while an output grows, and then while it grows on, stays
 pub grows_twice : {a b c : Option Text} → Grows a b → Grows b c → Grows a c
 grows_twice {a} {b} {c} one two = record { more = one.more ++ two.more; adds = adds_twice a b c one.more two.more one.adds two.adds }
 
@@ -34,6 +36,7 @@ pub run_grows : (Is : UnreadBlock → Want → Type 0) (seen : List Want) (r : T
     (result : Result (Unit {0}) Stop) → ShowsText Is seen r old new waited waits result → Grows old new
 run_grows Is seen r old new waited waits result = by result
   where
+    -- a refusal of the output within the run lets stay what stood there
     cut : CutIn r old new waited waits → Grows old new
     cut c = record { more = _; adds = c.cut.adds }
 

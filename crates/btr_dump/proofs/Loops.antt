@@ -23,8 +23,9 @@ use Rattle.btr_volume.specs.Lookup.{Program, each}
 use Rattle.btr_volume.specs.declared.stop.Stop.{Stop}
 use Rattle.btr_volume.specs.declared.stop.Stop.TheVariants.{NoTree, Tree, Deletion, Balance, Missing, Image, Sink, Out, Memory}
 use Rattle.btr_dump.specs.Pieces.{Text, Shown}
-use Rattle.btr_dump.specs.Showing.{part, whole, TextRun, CutIn, WroteAll, ShowsText, GoesOn, Turns}
+use Rattle.btr_dump.specs.Showing.{part, whole, TextRun, CutIn, WroteAll, ShowsText, ShowsMore, Turns}
 
+-- the text of some pieces, and of some more, is that of all of them
 whole-append : (a b : List Text) → whole (a ++ b) ≡ whole a ++ whole b
 whole-append a b = flat_map-append (λ (piece : Text). piece) a b
 
@@ -38,38 +39,47 @@ pub marks_after : (ms : List (Mark Want Text)) (e : Result (Unit {0}) fate.Fault
 marks_after ms (Ok a) k = ((k a).marks, refl)
 marks_after ms (Err f) k = ([], sym (append-nil ms))
 
+-- a run that ended with its value is followed by the next one, with its own marks in front
 pub value_then : (ms : List (Mark Want Text)) (e : Result (Unit {0}) fate.Fault) (k : Unit {0} → TextRun (Unit {0})) → e ≡ Ok tt → after ms e k
     ≡ prepend ms (k tt)
 value_then ms e k is = ap (λ x. after ms x k) is
 
+-- a run without marks after which the next item is to come
 abbrev gone_on : Unit {0} → Run Want fate.Fault Text (Result (Unit {0}) (Unit {0}))
 gone_on a = run [] (Ok (Ok a))
 
+-- a run after which the next item is to come, and then the rest, is that run and then the rest
 twice : (ms : List (Mark Want Text)) (e : Result (Unit {0}) fate.Fault) (k : Unit {0} → TextRun (Unit {0}))
     → and_then (after ms e gone_on) (go_on_run k) ≡ after ms e k
 twice ms (Ok a) k = ap (λ m. prepend m (k a)) (append-nil ms)
 twice ms (Err f) k = refl
 
 module _ {X : Type 0} (show : X → Shown) (B : Map) where
+  -- an item is shown, and the next is to come
   abbrev body : Unit {0} → X → Prog Want fate.Fault Text (Result (Unit {0}) (Unit {0}))
   body u x = bind (show x) (λ v. Return (Ok v))
 
   abbrev fin : Unit {0} → Unit {0} → Unit {0}
   fin u v = u
 
+  -- the texts of all items, one after another
   abbrev pub shown_all : Program X (Unit {0}) → Shown
   shown_all p = each (λ u x. show x) tt p
 
+  -- the run of the texts of the items of a run
   abbrev run_all : Run Want fate.Fault X (Unit {0}) → TextRun (Unit {0})
   run_all r = thread_run (λ u x. exec B (body u x)) fin tt r.marks r.ending
 
+  -- the run of the texts of all items shows the items of their run
   exec_all : (p : Program X (Unit {0})) → exec B (shown_all p) ≡ run_all (exec B p)
   exec_all p = exec-thread B body fin tt p
 
+  -- wants before some items are wants before their texts
   all_past : (ws : List Want) (r : Run Want fate.Fault X (Unit {0})) → run_all (prepend (want_marks ws) r) ≡ prepend (want_marks ws) (run_all r)
   all_past [] r = refl
   all_past (w ∷ ws) r = ap (first (Wants w)) (all_past ws r)
 
+  -- an item is shown, and then those behind it
   all_does : (x : X) (r : Run Want fate.Fault X (Unit {0})) → run_all (first (Does x) r) ≡ and_then (exec B (show x)) (λ u. run_all r)
   all_does x r =
       ap (λ b. and_then b (go_on_run (λ u. thread_run (λ u x. exec B (body u x)) fin u r.marks r.ending))) (exec-bind B (show x) (λ v. Return (Ok v)))
@@ -78,6 +88,7 @@ module _ {X : Type 0} (show : X → Shown) (B : Map) where
   abbrev Exec : Unit {0} → X → Run Want fate.Fault Text (Result (Unit {0}) (Unit {0})) → Type 0
   Exec u x b = b ≡ exec B (body u x)
 
+  -- behind the text of an item comes that of the others
   some_after : (ms : List (Mark Want X)) (e : Result (Unit {0}) fate.Fault)
       → ((u : Unit {0}) → ThreadsTo Exec fin u ms e (thread_run (λ u x. exec B (body u x)) fin u ms e))
       → (marks : List (Mark Want Text)) (y : Result (Result (Unit {0}) (Unit {0})) fate.Fault)
@@ -86,6 +97,7 @@ module _ {X : Type 0} (show : X → Shown) (B : Map) where
   some_after ms e h marks (Ok (Err y)) = (run [] (Ok y), refl, refl)
   some_after ms e h marks (Err f) = refl
 
+  -- the run of the texts shows the items one after another
   some_all : (u : Unit {0}) (ms : List (Mark Want X)) (e : Result (Unit {0}) fate.Fault)
       → ThreadsTo Exec fin u ms e (thread_run (λ u x. exec B (body u x)) fin u ms e)
   some_all u [] e = refl
@@ -100,6 +112,7 @@ module _ {X : Type 0} (show : X → Shown) (B : Map) where
       (exec B p) h f in
       subst (λ q. Follows Is part seen q [] (Err h)) (threads_exec B body fin tt p g.0 g.1) g.2
 
+  -- where there is no item more, nothing more is shown, and the run ends well
   all_none : (ms : List (Mark Want X)) (e : Result (Unit {0}) fate.Fault) → [] ≡ steps_of ms → e ≡ Ok tt → ([] ≡ steps_of (run_all (run ms e)).marks)
       × ((run_all (run ms e)).ending ≡ Ok tt)
   all_none [] e n h = (
@@ -127,19 +140,23 @@ module _ {X : Type 0} (show : X → Shown) (B : Map) where
 
   -- to an item behind some wants
   module _ (p q : Program X (Unit {0})) (x : X) (past : List Want) (is : exec B p ≡ prepend (want_marks past) (first (Does x) (exec B q))) where
+    -- the run of the item's text
     abbrev item : TextRun (Unit {0})
     item = exec B (show x)
 
+    -- the run of the texts behind the item
     abbrev rest : Unit {0} → TextRun (Unit {0})
     rest u = exec B (shown_all q)
 
+    -- what is shown are the wants before the item, its text, and the texts behind it
     met : exec B (shown_all p) ≡ prepend (want_marks past) (and_then item rest)
     met = exec_all p ∙ ap run_all is ∙ all_past past (first (Does x) (exec B q))
         ∙ ap (prepend (want_marks past)) (all_does x (exec B q) ∙ ap (λ z. and_then item (λ u. z)) (sym (exec_all q)))
 
+    -- an item whose text was written to its end is past, with the wants before it and its own
     pub turn_moves : (On : List Want → Type 0) (Is : UnreadBlock → Want → Type 0) (seen ws : List Want) (old new : Option Text) (waited waits : Text)
         → On (seen ++ (past ++ wants_of item.marks)) → WroteAll Is ws item old new waited waits (Ok tt)
-        → GoesOn On (exec B (shown_all p)) (exec B (shown_all q)) seen old new waited waits
+        → ShowsMore On (exec B (shown_all p)) (exec B (shown_all q)) seen old new waited waits
     turn_moves On Is seen ws old new waited waits on w = record {
       past = record {
         marks = want_marks past ++ item.marks;
@@ -154,11 +171,12 @@ module _ {X : Type 0} (show : X → Shown) (B : Map) where
     -- the same where the item wants nothing more
     pub turn_goes : (On : List Want → Type 0) (Is : UnreadBlock → Want → Type 0) (seen ws : List Want) (old new : Option Text) (waited waits : Text)
         → wants_of item.marks ≡ [] → On (seen ++ past) → WroteAll Is ws item old new waited waits (Ok tt)
-        → GoesOn On (exec B (shown_all p)) (exec B (shown_all q)) seen old new waited waits
+        → ShowsMore On (exec B (shown_all p)) (exec B (shown_all q)) seen old new waited waits
     turn_goes On Is seen ws old new waited waits none on w =
         turn_moves On Is seen ws old new waited waits (subst (λ (x : List Want). On (seen ++ x))
         (sym (ap (λ (y : List Want). past ++ y) none ∙ append-nil past)) on) w
 
+    -- what halts the item's text halts what is shown from the wants before it on
     behind : (Is : UnreadBlock → Want → Type 0) (seen : List Want) (old new : Option Text) (waited waits : Text) (h : Halt fate.Fault UnreadBlock)
         → WroteAll Is (seen ++ past) item old new waited waits (Err h) → WroteAll Is seen (exec B (shown_all p)) old new waited waits (Err h)
     behind Is seen old new waited waits h w = record {
@@ -168,6 +186,7 @@ module _ {X : Type 0} (show : X → Shown) (B : Map) where
           (follows_halt Is part (seen ++ past) item rest w.done h w.follows);
     }
 
+    -- a refusal of the output within the item's text is one within what is shown
     cut : (old new : Option Text) (waited waits : Text) → CutIn item old new waited waits → CutIn (exec B (shown_all p)) old new waited waits
     cut old new waited waits c =
         let more = marks_after item.marks item.ending rest in
@@ -196,7 +215,7 @@ module _ {X : Type 0} (show : X → Shown) (B : Map) where
 
 -- no turn yet
 pub goes_none : (On : List Want → Type 0) (from : TextRun (Unit {0})) (seen : List Want) (text : Option Text) (waits : Text) → On seen
-    → GoesOn On from from seen text text waits waits
+    → ShowsMore On from from seen text text waits waits
 goes_none On from seen text waits on = record {
   past = record { marks = []; is = refl; wrote = wrote_nothing text waits };
   on = subst On (sym (append-nil seen)) on;
@@ -204,8 +223,8 @@ goes_none On from seen text waits on = record {
 
 -- one turn more
 pub goes_more : (On On' : List Want → Type 0) (from mid to : TextRun (Unit {0})) (seen : List Want) (old between new : Option Text)
-    (waited waiting waits : Text) (g : GoesOn On from mid seen old between waited waiting)
-    → ((ws : List Want) → On ws → GoesOn On' mid to ws between new waiting waits) → GoesOn On' from to seen old new waited waits
+    (waited waiting waits : Text) (g : ShowsMore On from mid seen old between waited waiting)
+    → ((ws : List Want) → On ws → ShowsMore On' mid to ws between new waiting waits) → ShowsMore On' from to seen old new waited waits
 goes_more On On' from mid to seen old between new waited waiting waits g turn =
     let h = turn (seen ++ wants_of g.past.marks) g.on in
     record {
@@ -223,10 +242,11 @@ goes_more On On' from mid to seen old between new waited waiting waits g turn =
 -- what is written of the rest is written of the whole
 pub goes_ends : (On : List Want → Type 0) (Is Less : UnreadBlock → Want → Type 0) → ((u : UnreadBlock) (w : Want) → Is u w → Less u w)
     → (from mid : TextRun (Unit {0})) (seen : List Want) (old between new : Option Text) (waited waiting waits : Text) (result : Result (Unit {0}) Stop)
-    → GoesOn On from mid seen old between waited waiting → ((ws : List Want) → On ws → ShowsText Is ws mid between new waiting waits result)
+    → ShowsMore On from mid seen old between waited waiting → ((ws : List Want) → On ws → ShowsText Is ws mid between new waiting waits result)
     → ShowsText Less seen from old new waited waits result
 goes_ends On Is Less weaker from mid seen old between new waited waiting waits result g rest = by result (rest (seen ++ wants_of g.past.marks) g.on)
   where
+    -- what was written of the rest, behind what is past, was written of the whole
     all : (answer : Result (Unit {0}) (Halt fate.Fault UnreadBlock))
         → WroteAll Is (seen ++ wants_of g.past.marks) mid between new waiting waits answer → WroteAll Less seen from old new waited waits answer
     all answer w = record {
@@ -237,6 +257,7 @@ goes_ends On Is Less weaker from mid seen old between new waited waiting waits r
           (follows_as Is Less weaker part (seen ++ wants_of g.past.marks) mid w.done answer w.follows));
     }
 
+    -- a refusal of the output within the rest is one within the whole
     cut : CutIn mid between new waiting waits → CutIn from old new waited waits
     cut c = record {
       before = g.past.marks ++ c.before;
@@ -264,7 +285,7 @@ module _ {C : Type 0} (on : Map → List Want → C → Type 0) (left : Map → 
   -- some turns went on
   abbrev pub Led : Map → Blocks → Blocks → C → C → Option Text → Option Text → Text → Text → Type 0
   Led B old new c c' text text' waited waits = (seen : List Want) → on B seen c
-      → GoesOn (λ ws. on B ws c') (exec B (left B old c)) (exec B (left B new c')) seen text text' waited waits
+      → ShowsMore (λ ws. on B ws c') (exec B (left B old c)) (exec B (left B new c')) seen text text' waited waits
 
   -- one turn more
   abbrev pub Turned : (UnreadBlock → Want → Type 0) → Map → Blocks → Blocks → C → C → Option Text → Option Text → Text → Text → Result Bool Stop → Type 0
@@ -277,6 +298,7 @@ module _ {C : Type 0} (on : Map → List Want → C → Type 0) (left : Map → 
       → ShowsText Is seen (exec B (left B store c)) text text' waited waits result
 
   module _ (B : Map) (old mid new : Blocks) (c now after : C) (begun between text : Option Text) (waited waiting waits : Text) where
+    -- some turns that went on, and then one more, are some turns that went on
     pub led_more : (Is : UnreadBlock → Want → Type 0) → Led B old mid c now begun between waited waiting
         → Turned Is B mid new now after between text waiting waits (Ok true) → Led B old new c after begun text waited waits
     led_more Is led turned seen here =
@@ -285,11 +307,13 @@ module _ {C : Type 0} (on : Map → List Want → C → Type 0) (left : Map → 
 
     module _ (Was Is : UnreadBlock → Want → Type 0) (weaker : (u : UnreadBlock) (w : Want) → Was u w → Is u w)
         (led : Led B old mid c now begun between waited waiting) where
+      -- where some turns went on and then the cursor is at its end, all was shown
       pub led_ends : Turned Was B mid new now after between text waiting waits (Ok false) → Shows Is B old c begun text waited waits (Ok tt)
       led_ends turned seen here =
           goes_ends (λ ws. on B ws now) Was Is weaker (exec B (left B old c)) (exec B (left B mid now)) seen begun between text waited waiting waits
           (Ok tt) (led seen here) turned
 
+      -- where some turns went on and then one stopped, what was shown follows the whole up to there
       pub led_stops : (stop : Stop) → Turned Was B mid new now after between text waiting waits (Err stop)
           → Shows Is B old c begun text waited waits (Err stop)
       led_stops stop turned seen here =

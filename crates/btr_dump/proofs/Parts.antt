@@ -12,7 +12,7 @@ use Rattle.btr_walk.specs.Reading.{Map, UnreadBlock, halt_of}
 use Rattle.btr_volume.specs.declared.stop.Stop.{Stop}
 use Rattle.btr_volume.specs.declared.stop.Stop.TheVariants.{NoTree, Tree, Deletion, Balance, Missing, Image, Sink, Out, Memory}
 use Rattle.btr_dump.specs.Pieces.{Text, Shown}
-use Rattle.btr_dump.specs.Showing.{part, whole, TextRun, CutIn, WroteAll, ShowsText, GoesOn}
+use Rattle.btr_dump.specs.Showing.{part, whole, TextRun, CutIn, WroteAll, ShowsText, ShowsMore}
 use Rattle.btr_dump.proofs.Loops.{goes_ends, marks_after, value_then}
 
 -- what a call wrote of a run it wrote behind other wants, and in calls that began earlier
@@ -22,6 +22,7 @@ pub writes_behind : (Is Later : UnreadBlock → Want → Type 0) → ((u : Unrea
     → ShowsText Is ws r old new waited waits result
 writes_behind Is Later weaker ws r old new waited waits result = by result
   where
+    -- what was written with an answer in calls that began later
     all : (answer : Result (Unit {0}) (Halt fate.Fault UnreadBlock)) → WroteAll Later [] r old new waited waits answer
         → WroteAll Is ws r old new waited waits answer
     all answer w = record {
@@ -44,17 +45,21 @@ writes_behind Is Later weaker ws r old new waited waits result = by result
     by (Err Sink) w = absurd w
 
 module _ (B : Map) (p : Shown) (k : Unit {0} → Shown) where
+  -- the run of the first
   abbrev front : TextRun (Unit {0})
   front = exec B p
 
+  -- the run of the first, and then the second
   abbrev both : TextRun (Unit {0})
   both = exec B (bind p k)
 
+  -- the run of both is that of the first, and then that of the second
   both_is : both ≡ and_then front (λ u. exec B (k u))
   both_is = exec-bind B p k
 
+  -- where the first was written to its end, it is past, and the second is to come
   goes : (Is : UnreadBlock → Want → Type 0) (old new : Option Text) (waited waits : Text) → WroteAll Is [] front old new waited waits (Ok tt)
-      → GoesOn (λ ws. Unit {0}) both (exec B (k tt)) [] old new waited waits
+      → ShowsMore (λ ws. Unit {0}) both (exec B (k tt)) [] old new waited waits
   goes Is old new waited waits w = record {
     past = record {
       marks = front.marks;
@@ -78,6 +83,7 @@ module _ (B : Map) (p : Shown) (k : Unit {0} → Shown) where
       → ShowsText {A = Unit {0}} Is [] front old new waited waits (Err stop) → ShowsText {A = Unit {0}} Is [] both old new waited waits (Err stop)
   first_stops Is old new waited waits stop = by stop
     where
+      -- what halts the first halts both
       halts : (h : Halt fate.Fault UnreadBlock) → WroteAll Is [] front old new waited waits (Err h) → WroteAll Is [] both old new waited waits (Err h)
       halts h w = record {
         done = w.done;
@@ -86,6 +92,7 @@ module _ (B : Map) (p : Shown) (k : Unit {0} → Shown) where
             (follows_halt Is part [] front (λ u. exec B (k u)) w.done h w.follows);
       }
 
+      -- a refusal of the output within the first is one within both
       cut : CutIn front old new waited waits → CutIn both old new waited waits
       cut c =
           let more = marks_after front.marks front.ending (λ u. exec B (k u)) in record {

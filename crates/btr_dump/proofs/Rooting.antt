@@ -30,6 +30,7 @@ pub piece_cut : (Is : UnreadBlock → Want → Type 0) (seen : List Want) (B : M
     (e : SinkError) → WasCut old new waited waits text → ShowsText {A = Unit {0}} Is seen (exec B (piece text)) old new waited waits (Err (stop_of e))
 piece_cut Is seen B text old new waited waits e cut = by e
   where
+    -- the output refused within the one piece
     within : CutIn (exec B (piece text)) old new waited waits
     within = record { before = Does text ∷ []; behind = []; place = refl; cut = cut_as (text ++ []) (sym (append-nil text)) cut }
 
@@ -43,6 +44,7 @@ module _ (item : TreeItem) where
   unfolding item_line
   item_none other = ap (λ b. cond b (formed item (root_item_of item.body) (λ root. piece (root_line (described item.key root)))) (Return tt)) (sym other)
 
+  -- a ROOT_ITEM has the line of the root that it describes, by its form
   same_kind : eqb item.key.kind 132 ≡ true → formed item (root_item_of item.body) (λ root. piece (root_line (described item.key root))) ≡ item_line item
   unfolding item_line
   same_kind is = ap (λ b. cond b (formed item (root_item_of item.body) (λ root. piece (root_line (described item.key root)))) (Return tt)) (sym is)
@@ -84,11 +86,13 @@ pub no_wants : (B : Map) (item : TreeItem) → wants_of (exec B (item_line item)
 unfolding item_line
 no_wants B item = by_kind (eqb item.key.kind 132)
   where
+    -- the line of a ROOT_ITEM wants nothing, whether it keeps its form or not
     by_root : (r : Result RootItem ItemFault) → let p : Shown = formed item r (λ root. piece (root_line (described item.key root))) in
         wants_of (exec B p).marks ≡ []
     by_root (Ok root) = refl
     by_root (Err fault) = refl
 
+    -- the line of an item wants nothing, whether it is a ROOT_ITEM or not
     by_kind : (b : Bool) → let p : Shown = cond b (formed item (root_item_of item.body) (λ root. piece (root_line (described item.key root))))
         (Return tt) in wants_of (exec B p).marks ≡ []
     by_kind true = by_root (root_item_of item.body)
@@ -100,6 +104,7 @@ module _ (Is : UnreadBlock → Want → Type 0) (B : Map) (first second : Text) 
       → ShowsText {A = Unit {0}} Is [] (exec B (Emit first (Emit second p))) old new waited waits (Err (stop_of e))
   two_cut old new waited waits e cut = by e
     where
+      -- the output refused within the first two pieces
       within : CutIn (exec B (Emit first (Emit second p))) old new waited waits
       within = record {
         before = Does first ∷ Does second ∷ [];
@@ -134,6 +139,7 @@ module _ (Is : UnreadBlock → Want → Type 0) (B : Map) (first : Text) (p : Sh
       → ShowsText {A = Unit {0}} Is [] (exec B (Emit first p)) old new waited waits (Err (stop_of e))
   one_cut old new waited waits e cut = by e
     where
+      -- the output refused within the first piece
       within : CutIn (exec B (Emit first p)) old new waited waits
       within = record { before = Does first ∷ []; behind = (exec B p).marks; place = refl; cut = cut_as (first ++ []) (sym (append-nil first)) cut }
 

@@ -18,7 +18,7 @@ use Rattle.btr_volume.specs.Tree.{described}
 use Rattle.btr_volume.specs.declared.root.TreeRoot.{TreeRoot}
 use Rattle.btr_volume.specs.declared.stop.Stop.{Stop}
 use Rattle.btr_dump.specs.Pieces.{Text, Shown, if_formed, item_root, item_trees, tree_if, tree_shown}
-use Rattle.btr_dump.specs.Showing.{TextRun, GoesOn, WroteAll, ShowsText}
+use Rattle.btr_dump.specs.Showing.{TextRun, ShowsMore, WroteAll, ShowsText}
 use Rattle.btr_dump.specs.Trees.{GivesItem}
 use Rattle.btr_walk.proofs.Staying.{left_same, on_more}
 use Rattle.btr_dump.proofs.Loops.{turn_goes, turn_moves, turn_stops}
@@ -32,18 +32,21 @@ item_root_read item read is same = ap if_formed same ∙ ap (λ b. cond b (if_fo
 
 module _ (Is : UnreadBlock → Want → Type 0) (B : Map) (kind : SumKind) (seen : List Want) (old mid : Blocks) (scan scan' : Scan) (item : TreeItem)
     (gives : GivesItem B seen old mid scan scan' item) where
+  -- the tree that an item describes, as text, if there is one
   abbrev show : TreeItem → Shown
   show i = tree_if kind (item_root i)
 
+  -- the scan stands at its place, by these wants
   abbrev On : List Want → Type 0
   On ws = IsOn scan'.lo scan'.hi B ws scan'.place
 
+  -- the text of all trees that were to come
   abbrev from : TextRun (Unit {0})
   from = exec B (item_trees kind (left_of B old scan))
 
   -- an item that describes no tree
   pub other_goes : (text : Option Text) (waits : Text) → item_root item ≡ None
-      → GoesOn On from (exec B (item_trees kind (left_of B mid scan'))) seen text text waits waits
+      → ShowsMore On from (exec B (item_trees kind (left_of B mid scan'))) seen text text waits waits
   other_goes text waits none =
       turn_goes show B (left_of B old scan) (left_of B mid scan') item gives.past gives.is On Is seen (seen ++ gives.past) text text waits waits
       (ap (λ o. wants_of (exec B (tree_if kind o)).marks) none) gives.on
@@ -53,9 +56,9 @@ module _ (Is : UnreadBlock → Want → Type 0) (B : Map) (kind : SumKind) (seen
   -- a tree was written to its end
   pub tree_goes : (root : TreeRoot) → item_root item ≡ Some root → (new : Blocks) → SameLoans mid new
       → (text text' : Option Text) (waited waits : Text) → WroteAll Is (seen ++ gives.past) (exec B (tree_shown kind root)) text text' waited waits (Ok tt)
-      → GoesOn On from (exec B (item_trees kind (left_of B new scan'))) seen text text' waited waits
+      → ShowsMore On from (exec B (item_trees kind (left_of B new scan'))) seen text text' waited waits
   tree_goes root is new same text text' waited waits w =
-      subst (λ p. GoesOn On from (exec B (item_trees kind p)) seen text text' waited waits) (sym (left_same B mid new scan' same))
+      subst (λ p. ShowsMore On from (exec B (item_trees kind p)) seen text text' waited waits) (sym (left_same B mid new scan' same))
       (turn_moves show B (left_of B old scan) (left_of B mid scan') item gives.past gives.is On Is seen (seen ++ gives.past) text text' waited waits
       (subst On (append_assoc seen gives.past (wants_of (exec B (show item)).marks))
       (on_more scan'.lo scan'.hi B (seen ++ gives.past) (wants_of (exec B (show item)).marks) scan'.place gives.on))

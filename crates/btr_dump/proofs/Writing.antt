@@ -70,12 +70,15 @@ pub record IsDone {A : Type 0} (r : TextRun A) (done : List Text) : Type 0 where
   pub place : r.marks ≡ before ++ behind
   pub steps : done ≡ steps_of before
 
+-- all pieces of a run are those of some first marks
 done_all : {A : Type 0} (r : TextRun A) (done : List Text) → done ≡ steps_of r.marks → IsDone r done
 done_all r done is = record { before = r.marks; behind = []; place = sym (append-nil r.marks); steps = is }
 
+-- where a block could not be read, the pieces that were done are those of some first marks
 done_unread : {A : Type 0} (P : List Want → Type 0) (r : TextRun A) (done : List Text) → Breaks no_part P r done → IsDone r done
 done_unread P r done b = by b.left b.steps b.leaves
   where
+    -- where no piece is done in part, none is left so
     none_left : (t : Text) (ms : List (Mark Want Text)) → Leaves no_part (Some t) ms → ⊥
     none_left t [] l = l
     none_left t (Wants w ∷ ms) l = l
@@ -86,9 +89,11 @@ done_unread P r done b = by b.left b.steps b.leaves
     by (Some t) steps l = absurd (none_left t b.behind l)
 
 module _ {A : Type 0} (Is : UnreadBlock → Want → Type 0) (r : TextRun A) (done : List Text) where
+  -- where a run came to its value, the pieces that were done are those of some first marks
   pub done_value : (a : A) → Follows Is part [] r done (Ok a) → IsDone r done
   done_value a f = done_all r done f.0
 
+  -- where a run came to a fault of a tree, the pieces that were done are those of some first marks
   pub done_fault : (f : TreeFault) → Follows Is part [] r done (Err (halt_of f)) → IsDone r done
   done_fault (tree.Lost a) f = done_all r done f.0
   done_fault (tree.Unread a slot) f = done_unread _ r done f

@@ -121,14 +121,14 @@ pub record Past (from to : TextRun (Unit {0})) (old new : Option Text) (waited w
   pub wrote : Wrote old new waited waits (whole (steps_of marks))
 
 -- a cursor goes on: some first marks are past, and it stands at a place that is known by the wants up to there
-pub record GoesOn (On : List Want → Type 0) (from to : TextRun (Unit {0})) (seen : List Want) (old new : Option Text) (waited waits : Text) : Type 0 where
+pub record ShowsMore (On : List Want → Type 0) (from to : TextRun (Unit {0})) (seen : List Want) (old new : Option Text) (waited waits : Text) : Type 0 where
   pub past : Past from to old new waited waits
   pub on : On (seen ++ wants_of past.marks)
 
 -- one turn of a loop over a cursor: it goes on, or is at its end
 abbrev pub Turns : (UnreadBlock → Want → Type 0) → (List Want → Type 0) → TextRun (Unit {0}) → TextRun (Unit {0}) → List Want → Option Text → Option Text
     → Text → Text → Result Bool Stop → Type 0
-Turns Is On from to seen old new waited waits (Ok true) = GoesOn On from to seen old new waited waits
+Turns Is On from to seen old new waited waits (Ok true) = ShowsMore On from to seen old new waited waits
 Turns Is On from to seen old new waited waits (Ok false) = ShowsText {A = Unit {0}} Is seen from old new waited waits (Ok tt)
 Turns Is On from to seen old new waited waits (Err stop) = ShowsText Is seen from old new waited waits (Err stop)
 

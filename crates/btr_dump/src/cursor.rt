@@ -48,7 +48,7 @@ pub(crate) trait Cursor {
         ensures ready { ready (R.seen rack.new) store.new self.new }
         ensures reads { OnlyReads (R.seen rack.old) (R.seen rack.new) }
         ensures others { SameLoans (base store.old (loan self.old)) (base store.new (loan self.new)) }
-        ensures nears { TurnRankFalls (rank self.old) (rank self.new) result }
+        ensures rank_falls { TurnRankFalls (rank self.old) (rank self.new) result }
         ensures account { StopCounts (O.account out.old) (O.account out.new) result }
         ensures cause { DumpStopCause store.old.layout (R.seen rack.old) (R.seen rack.new) result }
         ensures grows { Grows (O.text out.old) (O.text out.new) }

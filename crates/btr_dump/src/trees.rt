@@ -63,7 +63,7 @@ fn next_item<R: Rack>(
     ensures ready { IsScanReady (R.seen rack.new) store.new scan.new }
     ensures reads { OnlyReads (R.seen rack.old) (R.seen rack.new) }
     ensures others { SameLoans (without_leaf store.old scan.old) (without_leaf store.new scan.new) }
-    ensures nears { ItemRankFalls (rank_of scan.old) (rank_of scan.new) result }
+    ensures rank_falls { ItemRankFalls (rank_of scan.old) (rank_of scan.new) result }
     ensures cause { HasCause store.old.layout (R.seen rack.old) (R.seen rack.new) result }
     ensures content { Tells store.old.layout (R.seen rack.old) (R.seen rack.new)
         (λ B. (seen : List Want) → IsOn scan.old.lo scan.old.hi B seen scan.old.place

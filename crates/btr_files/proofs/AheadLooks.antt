@@ -36,6 +36,7 @@ use Rattle.btr_files.proofs.AheadSums.{bind_ending}
 
 -- ---- of one call
 
+-- where the images are told, two facts about them give a third
 both_told : {images : Type 0} (h : Option images) (P Q R : images → Type 0) → ((i : images) → P i → Q i → R i) → IfSome h P → IfSome h Q → IfSome h R
 both_told None P Q R f p q = tt
 both_told (Some i) P Q R f p q = f i p q
@@ -94,13 +95,15 @@ by_reach layout {a} {b} Is root addr key reach result P is came law found reache
 
 -- ---- the want of a sector
 
-no_steps : (xs : List ⊥) → [] ≡ xs
+-- a lookup has no steps
+pub no_steps : (xs : List ⊥) → [] ≡ xs
 no_steps [] = refl
 no_steps (x ∷ xs) = absurd x
 
 -- by a checksum that is kept
 module _ (layout : Layout) (kind : SumKind) (sums : Option TreeRoot) (nosum : Bool) (addr : ℕ) (ahead : SumsAhead) (sum : Sum) (tested : nosum ≡ false)
     (same : ahead.kind ≡ kind) (kept : kept_sum ahead addr ≡ Some sum) where
+  -- where the checksum of a sector is kept, the lookup of its want comes to a want with that checksum
   by_kept : (Is : UnreadBlock → Want → Type 0) (B : Map) → IsSummed B sums ahead → ComesOf Is B (sector_want kind sums nosum addr) (Ok (Sector addr sum))
   by_kept Is B summed =
       let looked : (exec B (sum_at kind sums addr)).ending ≡ Ok (Some sum) =
@@ -109,6 +112,7 @@ module _ (layout : Layout) (kind : SumKind) (sums : Option TreeRoot) (nosum : Bo
       subst (λ (b : Bool). ComesOf Is B (cond b (Return (Plain addr)) p) (Ok (Sector addr sum))) (sym tested)
       (no_steps (steps_of (exec B p).marks), bind_ending B (sum_at kind sums addr) (λ s. Return (want_by addr s)) (Some sum) (Ok (Sector addr sum)) looked refl)
 
+  -- the want of a sector whose checksum is kept is told with no call
   pub want_kept : {a : Seen} (Is : UnreadBlock → Want → Type 0)
       → Tells layout a a (λ B. IsSummed B sums ahead → ComesOf Is B (sector_want kind sums nosum addr) (Ok (Sector addr sum)))
   want_kept Is = unread_on layout (λ B. IsSummed B sums ahead → ComesOf Is B (sector_want kind sums nosum addr) (Ok (Sector addr sum))) (by_kept Is)
@@ -128,9 +132,11 @@ abbrev pub GivenWithSums : SumKind → Source → (UnreadBlock → Want → Type
 GivenWithSums kind source Is Bs p p' store ahead ahead' result = IsSummed (Bs 0) source.sums ahead → IsGiven kind source Is Bs p p' store result
     × IsSummed (Bs 0) source.sums ahead'
 
+-- what holds where the checksums that are kept are those of the tree, and that those kept afterwards are so too
 abbrev pub with_sums : (Map → Type 0) → Option TreeRoot → SumsAhead → SumsAhead → Map → Type 0
 with_sums P sums ahead ahead' B = IsSummed B sums ahead → P B × IsSummed B sums ahead'
 
+-- what calls tell where the kept checksums are right, and that they stay right, are told together
 pub looked_with_sums : (layout : Layout) {a b : Seen} (P : Map → Type 0) (sums : Option TreeRoot) (ahead ahead' : SumsAhead)
     → Tells layout a b (λ B. IsSummed B sums ahead → P B) → Tells layout a b (λ B. IsSummed B sums ahead → IsSummed B sums ahead')
     → Tells layout a b (with_sums P sums ahead ahead')

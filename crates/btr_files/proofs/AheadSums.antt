@@ -19,7 +19,7 @@ use Rattle.btr_volume.specs.Lookup.{Lookup, formed}
 use Rattle.btr_walk.specs.Le.{TreeItem, le}
 use Rattle.btr_walk.specs.Reading.{Map}
 use Rattle.btr_walk.specs.Showing.{item_of}
-use Rattle.btr_walk.specs.Spot.{is_below}
+use Rattle.btr_walk.specs.BlockPointer.{is_below}
 use Rattle.btr_walk.specs.declared.found.Found.{Found}
 use Rattle.btr_walk.specs.declared.found.Reach.{Reach}
 use Rattle.btr_files.specs.declared.sums_ahead.SumsAhead.{SumsAhead}
@@ -34,6 +34,7 @@ take_of_take (suc n) zero xs le = absurd (omega (arith, le))
 take_of_take (suc n) (suc m) [] le = refl
 take_of_take (suc n) (suc m) (x ∷ xs) le = ap (λ l. x ∷ l) (take_of_take n m xs (omega (arith, le)))
 
+-- a list, taken as one of bytes
 abbrev the_bytes : List ℕ → List ℕ
 the_bytes xs = xs
 
@@ -45,6 +46,7 @@ nil_dropped : (n : ℕ) → drop n (the_bytes []) ≡ the_bytes []
 nil_dropped zero = refl
 nil_dropped (suc n) = refl
 
+-- some bytes behind the first ones are those of a longer front, without the first ones
 take_behind : (k n : ℕ) (xs : List ℕ) → take n (drop k xs) ≡ drop k (take (k + n) xs)
 take_behind zero n xs = ap (λ (m : ℕ). take m xs) (sym (zero-add n))
 take_behind (suc k) n [] = nil_taken n ∙ sym (nil_dropped (suc k)) ∙ ap (drop (suc k)) (sym (nil_taken (suc k + n)))
@@ -78,6 +80,7 @@ record IsCovered (kind : SumKind) (addr : ℕ) (body : List ℕ) (run : SumRun) 
   within : addr < run.start + run.count * 4096
   is : stored_sum kind (drop ((addr - run.start) / 4096 * sum_size kind) body) ≡ sum
 
+-- a run that has a checksum for a sector covers it, and the checksum stands there
 covered : (kind : SumKind) (addr : ℕ) (body : List ℕ) (run : SumRun) (sum : Sum) → sum_in kind addr body run ≡ Some sum → IsCovered kind addr body run sum
 covered kind addr body run sum = of (covers run addr) refl
   where
@@ -95,6 +98,7 @@ both_true true true e f = refl
 both_true true false e f = absurd (cc f)
 both_true false b e f = absurd (cc e)
 
+-- a run that covers a sector has the checksum that stands for it in the body
 pub sum_of_covered : (kind : SumKind) (addr : ℕ) (body : List ℕ) (run : SumRun) → run.start ≤ addr → addr < run.start + run.count * 4096
     → sum_in kind addr body run ≡ Some (stored_sum kind (drop ((addr - run.start) / 4096 * sum_size kind) body))
 sum_of_covered kind addr body run le lt =
@@ -103,23 +107,28 @@ sum_of_covered kind addr body run le lt =
 
 -- ---- a part of a run
 
+-- the number of a later sector in a run is that of an earlier one and how many sectors it lies behind that
 sector_of : (start addr other : ℕ) → start ≤ addr → addr ≤ other → (addr - start) % 4096 ≡ 0 → (other - start) / 4096 ≡ (addr - start) / 4096
     + (other - addr) / 4096
 sector_of start addr other first second aligned = omega (arith, first, second, aligned)
 
+-- a sector of a part of a run is covered by the run
 in_run : (start addr other count part : ℕ) → start ≤ addr → (addr - start) % 4096 ≡ 0 → part ≤ count - (addr - start) / 4096
     → (addr - start) / 4096 < count → other < addr + part * 4096 → other < start + count * 4096
 in_run start addr other count part le aligned few lt below = omega (arith, le, aligned, few, lt, below)
 
+-- a sector of a part has a number below how many the part has
 nth_sector : (addr other part : ℕ) → addr ≤ other → other < addr + part * 4096 → (other - addr) / 4096 < part
 nth_sector addr other part le lt = omega (arith, le, lt)
 
+-- a product with a sum is the sum of the products
 shared : (a b size : ℕ) → (a + b) * size ≡ a * size + b * size
 shared a b size = grind (arith)
 
 one-times : (n : ℕ) → 1 * n ≡ n
 one-times n = omega arith
 
+-- each of n checksums in a row ends within them
 end_fits : (i n size : ℕ) → i < n → i * size + size ≤ n * size
 end_fits i n size lt =
     let le : i + 1 ≤ n = omega (arith, lt) in
@@ -134,15 +143,19 @@ part_ends first part count size few lt =
 module _ (kind : SumKind) (addr : ℕ) (body : List ℕ) (run : SumRun) (part : ℕ) (copy : List ℕ) (behind : run.start ≤ addr)
     (aligned : (addr - run.start) % 4096 ≡ 0) (lt : (addr - run.start) / 4096 < run.count) (few : part ≤ run.count - (addr - run.start) / 4096)
     (same : take (part * sum_size kind) copy ≡ take (part * sum_size kind) (drop ((addr - run.start) / 4096 * sum_size kind) body)) where
+  -- the part of the run that was copied: so many sectors from the address on
   abbrev taken : SumRun
   taken = record { start = addr; count = part }
 
+  -- the copied part has no checksum for a sector before the address
   pub taken_behind : (other : ℕ) (sum : Sum) → sum_in kind other copy taken ≡ Some sum → addr ≤ other
   taken_behind other sum e = (covered kind other copy taken sum e).start
 
+  -- a sector whose checksum the copied part has lies before the part's end
   pub taken_within : (other : ℕ) (sum : Sum) → sum_in kind other copy taken ≡ Some sum → other < addr + part * 4096
   taken_within other sum e = (covered kind other copy taken sum e).within
 
+  -- a checksum that the copied part has for a sector is the one that the run has for it
   pub taken_same : (other : ℕ) (sum : Sum) → sum_in kind other copy taken ≡ Some sum → sum_in kind other body run ≡ Some sum
   taken_same other sum e =
       let c = covered kind other copy taken sum e in
@@ -176,6 +189,7 @@ run_found kind addr item run B sum sums is e =
     ∙ ap Ok e
 
 module _ (kind : SumKind) (addr : ℕ) (reach : Reach) (shown : Found) (run : SumRun) (ahead : SumsAhead) (is_there : reach.found ≡ Some shown) where
+  -- checksums that are kept of the run that a lookup found are what lookups give, as far as that lookup reaches
   pub from_is_ahead : is_sums shown.key ≡ true → sum_run_of kind shown.key shown.body.now ≡ Ok run
       → IsFrom kind addr shown.body.now run reach.until ahead → IsReadAhead kind addr reach ahead
   from_is_ahead sums is from B root found same other sum kept =

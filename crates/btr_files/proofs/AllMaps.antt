@@ -20,10 +20,12 @@ pub zero_chosen : (b : Bool) (xs : List (List ℕ)) → slice_get xs (cond b 0 0
 zero_chosen true xs = refl
 zero_chosen false xs = refl
 
+-- with a test or without, the choice of number 0 is the first candidate
 either_zero : (plain : Bool) (xs : List (List ℕ)) → cond plain (chosen 0 xs) (slice_get xs 0) ≡ slice_get xs 0
 either_zero true xs = zero_chosen (ltb 0 (length xs)) xs
 either_zero false xs = refl
 
+-- the choice of number 0 of a want is its fate
 choice-zero : (images : Images) (want : Want) (x : Result Target Fault) → choice_of images 0 want x ≡ fate_of images (addr_of want) x
 choice-zero images want (Err f) = refl
 choice-zero images want (Ok t) = ap (or_lost (addr_of want)) (either_zero (is_plain want) (passing images t))
@@ -43,10 +45,12 @@ one_all : (layout : Layout) (P : Map → Type 0) (Q : (ℕ → Map) → Type 0) 
 one_all layout P Q f sure None p = tt
 one_all layout P Q f sure (Some images) p = f (λ n. maps_by sure images n layout) (subst P (sym (maps-zero sure images layout)) p)
 
+-- what calls tell of the one map they tell of all maps whose first it is
 pub all_of_one : (layout : Layout) {a b : Seen} (P : Map → Type 0) (Q : (ℕ → Map) → Type 0) → ((Bs : ℕ → Map) → P (Bs 0) → Q Bs) → Tells layout a b P
     → TellsAll layout a b Q
 all_of_one layout P Q f one = record { calls = calls_as (λ sure h p. one_all layout P Q f sure h p) one.calls }
 
+-- where the images are told, what follows of all their maps holds too
 all_one : (layout : Layout) (P Q : (ℕ → Map) → Type 0) → ((Bs : ℕ → Map) → P Bs → Q Bs) → (sure : Sure) (h : Option (List (List ℕ)))
     → IfSome h (λ images. P (λ n. maps_by sure images n layout)) → IfSome h (λ images. Q (λ n. maps_by sure images n layout))
 all_one layout P Q f sure None p = tt
@@ -56,6 +60,7 @@ all_one layout P Q f sure (Some images) p = f (λ n. maps_by sure images n layou
 pub all_drawn : (layout : Layout) {a b : Seen} (P Q : (ℕ → Map) → Type 0) → ((Bs : ℕ → Map) → P Bs → Q Bs) → TellsAll layout a b P → TellsAll layout a b Q
 all_drawn layout P Q f one = record { calls = calls_as (λ sure h p. all_one layout P Q f sure h p) one.calls }
 
+-- where the images are told, two facts of all their maps give a third
 all_both : (layout : Layout) (P Q R : (ℕ → Map) → Type 0) → ((Bs : ℕ → Map) → P Bs → Q Bs → R Bs) → (sure : Sure) (h : Option (List (List ℕ)))
     → IfSome h (λ images. P (λ n. maps_by sure images n layout)) → IfSome h (λ images. Q (λ n. maps_by sure images n layout))
     → IfSome h (λ images. R (λ n. maps_by sure images n layout))
@@ -68,6 +73,7 @@ pub all_joined : {layout layout' : Layout} {a b c : Seen} (P Q R : (ℕ → Map)
 all_joined {layout} {layout'} {a} {b} {c} P Q R e f one two =
     record { calls = calls_then (λ sure h p q. all_both layout P Q R f sure h p q) one.calls (subst (λ (l : Layout). TellsAll l b c Q) e two).calls }
 
+-- what holds of any maps holds of those of the images, where they are told
 all_none : (layout : Layout) (Q : (ℕ → Map) → Type 0) → ((Bs : ℕ → Map) → Q Bs) → (sure : Sure) (h : Option (List (List ℕ)))
     → IfSome h (λ images. Q (λ n. maps_by sure images n layout))
 all_none layout Q f sure None = tt

@@ -29,7 +29,8 @@ use Rattle.btr_files.specs.declared.progress.Todo.{Todo}
 use Rattle.btr_files.specs.declared.progress.Todo.TheVariants.{Next, Over}
 use Rattle.btr_files.specs.Content.{Piece, gap, piece, pieces, content}
 use Rattle.btr_files.specs.Extents.{Extent, extent, in_order, extents_in, extents}
-use Rattle.btr_files.specs.Streaming.{Given, given, on_behind, inline_of, extent_pieces, item_pieces, zeros_to_end, todo_prog, Treats, Then, LeftBy, IsInline}
+use Rattle.btr_files.specs.Streaming.{GivenUpTo, given, on_behind, inline_of, extent_pieces, item_pieces}
+use Rattle.btr_files.specs.Streaming.{zeros_to_end, todo_prog, Treats, Then, LeftBy, IsInline}
 use Rattle.btr_files.specs.Streaming.{IsGoing}
 use Rattle.btr_files.proofs.Binds.{bind_assoc, bind_same}
 use Rattle.btr_files.proofs.Onwards.{Pieces, of_then}
@@ -41,20 +42,23 @@ module _ (kind : SumKind) (source : Source) where
   abbrev at_end : ℕ → Unit {0} → ℕ
   at_end at u = at
 
-  abbrev given_end : Given → Unit {0} → ℕ
+  abbrev given_end : GivenUpTo → Unit {0} → ℕ
   given_end g u = g.at
 
-  on_same : (end : ℕ) (k : ℕ → Program Piece ℕ) (k' : Given → Program Piece ℕ) → ((at : ℕ) → k at ≡ k' (given at end)) → (r : Result ℕ ℕ) → go_on k r
+  -- going on from a position is going on from it with the end of the last extent beside it
+  on_same : (end : ℕ) (k : ℕ → Program Piece ℕ) (k' : GivenUpTo → Program Piece ℕ) → ((at : ℕ) → k at ≡ k' (given at end)) → (r : Result ℕ ℕ) → go_on k r
       ≡ go_on k' (on_behind end r)
   on_same end k k' f (Ok at) = f at
   on_same end k k' f (Err at) = refl
 
-  on_piece : (x : Program Piece (Result ℕ ℕ)) (end : ℕ) (k : ℕ → Program Piece ℕ) (k' : Given → Program Piece ℕ)
+  -- the pieces of an extent, and then what comes behind it, with its end beside the position or without
+  on_piece : (x : Program Piece (Result ℕ ℕ)) (end : ℕ) (k : ℕ → Program Piece ℕ) (k' : GivenUpTo → Program Piece ℕ)
       → ((at : ℕ) → k at ≡ k' (given at end)) → bind x (go_on k) ≡ bind (bind x (λ r. Return (on_behind end r))) (go_on k')
   on_piece x end k k' f = bind_same x (go_on k) (λ r. go_on k' (on_behind end r)) (on_same end k k' f)
       ∙ sym (bind_assoc x (λ r. Return (on_behind end r)) (go_on k'))
 
-  on_order : (item : TreeItem) (fields : FileExtent) (at : ℕ) (b : Bool) (k : ℕ → Program Extent (Unit {0})) (k' : Given → Program Piece ℕ)
+  -- an extent in its order gives as an extent what its item gives; out of order it is malformed either way
+  on_order : (item : TreeItem) (fields : FileExtent) (at : ℕ) (b : Bool) (k : ℕ → Program Extent (Unit {0})) (k' : GivenUpTo → Program Piece ℕ)
       → ((at' end' : ℕ) → thread one at_end at' (k end') ≡ k' (given at' end')) →
       thread one at_end at (bind (cond b (Emit (extent item fields) (Return (Ok (end_of item.key.offset fields)))) (Stop (Malformed item.leaf))) (go_on k))
       ≡ bind (cond b (bind (one at (extent item fields)) (λ r. Return (on_behind (end_of item.key.offset fields) r))) (Stop (Malformed item.leaf))) (go_on k')
@@ -62,7 +66,8 @@ module _ (kind : SumKind) (source : Source) where
       (λ at'. thread one at_end at' (k (end_of item.key.offset fields))) k' (λ at'. f at' (end_of item.key.offset fields))
   on_order item fields at false k k' f = refl
 
-  on_form : (item : TreeItem) (at end : ℕ) (r : Result FileExtent ItemFault) (k : ℕ → Program Extent (Unit {0})) (k' : Given → Program Piece ℕ)
+  -- an item gives by its form what its extent gives, and so do the items behind it
+  on_form : (item : TreeItem) (at end : ℕ) (r : Result FileExtent ItemFault) (k : ℕ → Program Extent (Unit {0})) (k' : GivenUpTo → Program Piece ℕ)
       → ((at' end' : ℕ) → thread one at_end at' (k end') ≡ k' (given at' end')) →
       thread one at_end at (bind (formed item r (λ fields. in_order end (extent item fields))) (go_on k))
       ≡ bind (formed item r (extent_pieces kind source (given at end) item)) (go_on k')
@@ -95,9 +100,11 @@ some_test : (n : ℕ) → (n ≡ 0 → ⊥) → (n == 0) ≡ false
 some_test n h = grind (arith, nat_tests)
 
 module _ (kind : SumKind) (source : Source) (tree : TreeRoot) (ino : ℕ) (rest : Rest) (Bs : ℕ → Map) (todo : Todo) where
+  -- a file that begins: nothing of it has been given
   abbrev begun : Progress
   begun = record { rest = rest; at = 0; end = 0; todo = todo }
 
+  -- a run is one of the file's content, where it is known whether the file is empty
   abbrev Content : Bool → Pieces → Type 0
   Content b q = GoesTo Bs (cond b (Return tt) (pieces kind source.sums source.nosum source.size 0 (extents tree ino))) q
 
@@ -112,6 +119,7 @@ module _ (kind : SumKind) (source : Source) (tree : TreeRoot) (ino : ℕ) (rest 
       let z : source.size - 0 ≡ 0 = omega (arith, none) in
       subst (λ (b : Bool). Content b q) (sym (zero_test source.size none)) (subst (λ (n : ℕ). GoesTo Bs (gap n (Return tt)) q) z e)
 
+  -- each run of what a file that isn't empty has to give as it begins is one of its content
   pub begins_some : (q : Pieces) → (source.size ≡ 0 → ⊥) → todo ≡ Next → rest_left (Bs 0) rest ≡ range (key ino 108 0) (key ino 108 last) tree.place
       → LeftBy kind source Bs (Bs 0) begun q → GoesTo Bs (content kind source.sums source.nosum source.size tree ino) q
   begins_some q some is program h =

@@ -17,6 +17,7 @@ module _ {W F S : Type 0} where
   pub bind_same : {A B : Type 0} (p : Prog W F S A) (k h : A → Prog W F S B) → ((a : A) → k a ≡ h a) → bind p k ≡ bind p h
   bind_same p k h e = ap (bind p) (fun_ext e)
 
+-- zeros or none before a program, and then another
 gap_if : {A B : Type 0} (b : Bool) (n : ℕ) (p : Program Piece A) (k : A → Program Piece B) → bind (cond b p (Emit (Gap n) p)) k
     ≡ cond b (bind p k) (Emit (Gap n) (bind p k))
 gap_if true n p k = refl

@@ -36,13 +36,16 @@ module _ {A : Type 0} where
   abbrev Gives : Program Piece A → Type 0
   Gives p = ShowsOne is_plain IsSectorLong AsLong p
 
+  -- of two programs that show each sector without a checksum by one piece, either is such a program
   gives_if : (b : Bool) (p q : Program Piece A) → Gives p → Gives q → Gives (cond b p q)
   gives_if true p q h g = h
   gives_if false p q h g = g
 
+  -- zeros before such a program leave it one
   gives_gap : (n : ℕ) (rest : Program Piece A) → Gives rest → Gives (gap n rest)
   gives_gap n rest h = gives_if (nat_eq n 0) rest (Emit (Gap n) rest) h h
 
+  -- a lookup before such programs shows no piece itself
   gives_looks : {C : Type 0} (p : Lookup C) (k : C → Program Piece A) → Shows same p → ((c : C) → Gives (k c)) → Gives (looks p k)
   gives_looks p k h g =
       one_bind is_plain IsSectorLong AsLong (quiet p) k (one_none is_plain IsSectorLong AsLong (quiet p) (shows_quiet same same is_plain p h)) g
@@ -61,6 +64,7 @@ module _ {A : Type 0} where
     ),
   )
     where
+      -- what is cut of a sector without a checksum is as long whichever copy it comes from
       as_long : (w : Want) → IsTrue (is_plain w) → (b c : List ℕ) → IsSectorLong w b → IsSectorLong w c → length (take left b) ≡ length (take left c)
       as_long (Tree addr generation level) t b c long also = absurd (never_true t)
       as_long (Block addr) t b c long also = absurd (never_true t)
@@ -71,6 +75,7 @@ module _ {A : Type 0} where
           omega (arith, one, other, long, also)
 
 module _ (kind : SumKind) (sums : Option TreeRoot) (nosum : Bool) where
+  -- sectors one after another show each that has no checksum by one piece
   gives_sectors : (n addr left : ℕ) → Gives (sectors kind sums nosum n addr left)
   gives_sectors zero addr left = tt
   gives_sectors (suc n) addr left =
@@ -79,6 +84,7 @@ module _ (kind : SumKind) (sums : Option TreeRoot) (nosum : Bool) where
       (want_shows kind sums nosum addr) (λ want. gives_sector left want rest (gives_sectors n (addr + 4096) (left - 4096)))
 
   module _ (size : ℕ) where
+    -- an extent that begins before the size shows each sector without a checksum by one piece, whatever its shape
     gives_shaped : (at : ℕ) (x : Extent) (shape : Shape) → Gives (shaped kind sums nosum size at x shape)
     gives_shaped at x (Inline len) =
         let rest : Program Piece (Result ℕ ℕ) = Emit (Bytes (take (size - x.start) x.inline) true) (Return (on_at size (end_of x.start x.fields))) in
@@ -91,16 +97,19 @@ module _ (kind : SumKind) (sums : Option TreeRoot) (nosum : Bool) where
         (one_bind is_plain IsSectorLong AsLong inside rest (gives_sectors (sector_count size x.start len) (addr + skip) (size - x.start)) (λ u. tt)))
     gives_shaped at x (Prealloc addr disk_len skip len) = tt
 
+    -- a program behind a test that the extent is clear shows such sectors by one piece each, as without the test
     gives_clear : (x : Extent) (found : Survey) (rest : Program Piece (Result ℕ ℕ)) → Gives rest → Gives (if_clear x found rest)
     gives_clear x Clear rest h = h
     gives_clear x Compressed rest h = tt
     gives_clear x Encoded rest h = tt
 
+    -- any extent of a file shows each sector without a checksum by one piece
     gives_piece : (at : ℕ) (x : Extent) → Gives (piece kind sums nosum size at x)
     gives_piece at x =
         gives_clear x (extents.judged x.fields) _
         (gives_if (nat_le size x.start) (Return (Err at)) (shaped kind sums nosum size at x x.fields.shape) tt (gives_shaped at x x.fields.shape))
 
+    -- the content of a file shows each sector without a checksum by one piece
     gives_content : (tree : TreeRoot) (ino : ℕ) → Gives (content kind sums nosum size tree ino)
     gives_content tree ino =
         gives_if (nat_eq size 0) (Return tt) (pieces kind sums nosum size 0 (extents tree ino)) tt
@@ -131,6 +140,7 @@ module _ (x : Piece) (xs : List Piece) (ys : ℕ → List Piece) (h : Mixed AsLo
   abbrev other : ℕ → List ℕ
   other n = piece_bytes (h.0 n)
 
+  -- the byte at a position is that under some map, in the first piece or behind it
   byte_by : (b : Bool) → nat_le (length front) p ≡ b → ByteOf (x ∷ xs) ys p
   byte_by true e =
       let le : length front ≤ p = grind (arith, nat_tests) in
@@ -156,10 +166,12 @@ module _ (x : Piece) (xs : List Piece) (ys : ℕ → List Piece) (h : Mixed AsLo
             ∙ ap (λ y. slice_index (bytes_of y) p) (sym (h.2 n)))),
       )
 
+-- each byte of mixed pieces is the one that stands there under some map
 mixed_byte : (xs : List Piece) (ys : ℕ → List Piece) → Mixed AsLong xs ys → (p : ℕ) → p < length (bytes_of xs) → ByteOf xs ys p
 mixed_byte [] ys h p lt = absurd (omega (arith, lt))
 mixed_byte (x ∷ xs) ys h p lt = byte_by x xs ys h p lt (λ q less. mixed_byte xs h.1 h.5 q less) (nat_le (length (piece_bytes x)) p) refl
 
+-- each byte of a file that was given whole is one that it has by some map, whatever copies its sectors came from
 pub some_content_is : SomeContentIsFile
 some_content_is maps kind sums nosum size tree ino run long alike goes ok =
     let p = content kind sums nosum size tree ino in

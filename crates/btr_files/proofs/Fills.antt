@@ -22,9 +22,11 @@ pub record Fills (f : ℕ → ℕ) (from to : ℕ) (bytes : List ℕ) : Type 0 w
 abbrev pub Marks : Type 0
 Marks = List (Mark Want Piece)
 
+-- the bytes of all pieces that some marks show
 abbrev pub bytes_in : Marks → List ℕ
 bytes_in ms = bytes_of (steps_of ms)
 
+-- the bytes of some marks, and then of some more, are those of both
 bytes_both : (ms ns : Marks) → bytes_in (ms ++ ns) ≡ bytes_in ms ++ bytes_in ns
 bytes_both ms ns = ap bytes_of (steps_of-append ms ns) ∙ flat_map-append piece_bytes (steps_of ms) (steps_of ns)
 
@@ -35,9 +37,11 @@ quiet_none (Wants w ∷ ms) = quiet_none ms
 quiet_none (Does s ∷ ms) = absurd s
 
 module _ (f : ℕ → ℕ) where
+  -- no bytes are those from a position up to itself
   pub fills_none : (at : ℕ) → Fills f at at []
   fills_none at = record { long = omega arith; spells = λ i lt. absurd (omega (arith, lt)) }
 
+  -- each byte of two parts is the function's, in the first part or in the second
   both_spell : (a m : ℕ) (xs ys : List ℕ) → a + length xs ≡ m → Fills f a m xs → (b : ℕ) → Fills f m b ys → (i : ℕ) → i < length xs + length ys
       → (t : Bool) → nat_le (length xs) i ≡ t → slice_index (xs ++ ys) i ≡ f (a + i)
   both_spell a m xs ys seam h b g i lt true e =
@@ -55,6 +59,7 @@ module _ (f : ℕ → ℕ) where
         spells = λ i lt. both_spell a m xs ys h.long h b g i (omega (arith, all, lt)) (nat_le (length xs) i) refl;
       }
 
+  -- the pieces of some marks, and then those of some more, are the function's bytes
   pub fills_marks : (a m b : ℕ) (ms ns : Marks) → Fills f a m (bytes_in ms) → Fills f m b (bytes_in ns) → Fills f a b (bytes_in (ms ++ ns))
   fills_marks a m b ms ns h g = subst (Fills f a b) (sym (bytes_both ms ns)) (fills_both a m b (bytes_in ms) (bytes_in ns) h g)
 
@@ -76,6 +81,7 @@ module _ (f : ℕ → ℕ) where
       }
 
   module _ {A : Type 0} (B : Map) (a m b : ℕ) (rest : Program Piece A) where
+    -- zeros, by whether there are any, and then a program
     by_gap : (n : ℕ) (t : Bool) → (n == 0) ≡ t → Fills f a m (replicate n 0) → Fills f m b (bytes_in (exec B rest).marks)
         → Fills f a b (bytes_in (exec B (cond t rest (Emit (Gap n) rest))).marks)
     by_gap n true e h g =
@@ -95,6 +101,7 @@ module _ (f : ℕ → ℕ) where
       → Fills f a b (bytes_in (exec B (gap {A = Unit {0}} (b - a) (Return tt))).marks)
   fills_last B a b le none = fills_gap B a b b (Return tt) le none (fills_none b)
 
+-- zeros before a program, by whether there are any, don't change how it ends
 gap_if_ends : {A : Type 0} (B : Map) (n : ℕ) (rest : Program Piece A) (t : Bool) → (exec B (cond t rest (Emit (Gap n) rest))).ending ≡ (exec B rest).ending
 gap_if_ends B n rest true = refl
 gap_if_ends B n rest false = refl

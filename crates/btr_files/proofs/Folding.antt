@@ -39,6 +39,7 @@ module _ {St' R' St R : Type 0} (body : St' → TreeItem → Lookup (Result St' 
   abbrev value : R' → Lookup R
   value r = Return (h r)
 
+  -- going on behind an item is the same from a state and from the one that stands for it
   turned : (leaf : _) (n : Next St' R') (k : St' → Lookup R') (k' : St → Lookup R) → ((st : St') → bind (k st) value ≡ k' (g st))
       → bind (bind (next_prog leaf n) (go_on k)) value ≡ bind (next_prog leaf (map_next g h n)) (go_on k')
   turned leaf (Go st) k k' f = f st
@@ -62,6 +63,7 @@ module _ {St R X : Type 0} (item : TreeItem) (k : X → Lookup (Result St R)) (k
   formed_is (Err fault) f = refl
 
 module _ {St' R' St R X : Type 0} (g : St' → St) (h : R' → R) (k' : X → Next St' R') (k : X → Next St R) where
+  -- an item by what it holds, where the states and the answer have other names
   pub formed_map : (r : Result X ItemFault) → ((x : X) → k x ≡ map_next g h (k' x)) → formed_next r k ≡ map_next g h (formed_next r k')
   formed_map (Ok x) f = f x
   formed_map (Err fault) f = refl

@@ -24,6 +24,7 @@ module _ (kind : SumKind) (source : Source) (Bs : ℕ → Map) (p : Progress) wh
   step_err Is p' store f h seen g = h seen g kind Bs
 
   module _ (Was Was' Is : UnreadBlock → Want → Type 0) (p' p'' : Progress) (weaker : (u : UnreadBlock) (w : Want) → Was' u w → Is u w) where
+    -- what was answered without a piece behind the next extent is answered of what was left before it
     ends_on : (seen : List Want) (l : LooksOn source (Bs 0) seen p p') (answer : Result (Unit {0}) (Halt Fault UnreadBlock))
         → EndsIn kind source Was' Bs (seen ++ l.past) p' answer → EndsIn kind source Is Bs seen p answer
     ends_on seen l answer e = (
@@ -33,6 +34,7 @@ module _ (kind : SumKind) (source : Source) (Bs : ℕ → Map) (p : Progress) wh
           (follows_as Was' Is weaker no_part (seen ++ l.past) e.0 [] answer e.2),
     )
 
+    -- a piece that is given behind the next extent is given of what was left before it
     gives_on : (seen : List Want) (l : LooksOn source (Bs 0) seen p p') (store : Blocks) (given : Shown)
         → GivesStep kind source Was' Bs (seen ++ l.past) p' p'' store given → GivesStep kind source Is Bs seen p p'' store given
     gives_on seen l store given s = record {

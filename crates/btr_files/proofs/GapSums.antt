@@ -18,7 +18,7 @@ use Rattle.btr_volume.specs.Looking.{Judges}
 use Rattle.btr_volume.specs.Lookup.{Lookup, formed}
 use Rattle.btr_walk.specs.Le.{TreeItem, le}
 use Rattle.btr_walk.specs.Reading.{Map}
-use Rattle.btr_walk.specs.Spot.{is_below}
+use Rattle.btr_walk.specs.BlockPointer.{is_below}
 use Rattle.btr_walk.specs.declared.found.Reach.{Reach}
 use Rattle.btr_walk.proofs.AtOrBelow.{le_low}
 use Rattle.btr_files.specs.declared.summed.Summed.TheVariants.{Gap}
@@ -65,11 +65,13 @@ module _ (kind : SumKind) (addr other : ℕ) (behind : addr ≤ other) where
       at : ℕ → SumRun → Lookup (Option TheSum)
       at a run = Return (sum_in kind a item.body run)
 
+      -- an item of checksums with none for the address has none behind it, by its run
       by_run : (r : Result SumRun ItemFault) → sum_run_of kind item.key item.body ≡ r → is_sums item.key ≡ true
           → (exec {S = ⊥} B (formed item r (at addr))).ending ≡ Ok None → (exec {S = ⊥} B (formed item r (at other))).ending ≡ Ok None
       by_run (Ok run) is sums f = ap Ok (none_in item.body run (start_low kind addr item run sums is (low item refl)) (cc f))
       by_run (Err fault) is sums f = absurd (cc f)
 
+      -- an item with no checksum for the address has none behind it, by whether it is one of checksums
       by_key : (b : Bool) → is_sums item.key ≡ b
           → (exec {S = ⊥} B (cond b (formed item (sum_run_of kind item.key item.body) (at addr)) (Return None))).ending ≡ Ok None
           → (exec {S = ⊥} B (cond b (formed item (sum_run_of kind item.key item.body) (at other)) (Return None))).ending ≡ Ok None
@@ -82,12 +84,15 @@ pub gap_read : (kind : SumKind) (addr below n : ℕ) (reach : Reach)
     → ((i : ℕ) → 0 < i → i < n → i < below) → Judges (sum_found kind addr (item_reached reach)) (Ok None) → IsReadGap kind addr reach (Ok (Gap n))
 gap_read kind addr below n reach bound few judged B sums ended same = each
   where
+    -- the lookup of the first sector came to no checksum
     none : (exec {S = ⊥} B (sum_found kind addr (item_reached reach))).ending ≡ Ok None
     none = ap (λ (p : Lookup (Option TheSum)). (exec B p).ending) judged
 
+    -- the item that was found stands at or below the key of the address
     low : (item : TreeItem) → item_reached reach ≡ Some item → key_number item.key ≤ key_number (sum_key addr)
     low item is = le_low B (sum_key addr) sums.place item (ended ∙ ap Ok is)
 
+    -- each sector of the gap has no checksum by a lookup of its own
     each : (i : ℕ) → i < n → (exec {S = ⊥} B (sum_under kind sums.place (addr + i * 4096))).ending ≡ Ok None
     each zero lt =
         subst (λ (a : ℕ). (exec {S = ⊥} B (sum_under kind sums.place a)).ending ≡ Ok None) (omega arith)

@@ -81,6 +81,7 @@ module _ {T : Type 0} (of : T → Link) where
   linked_if found true more = Some (found ++ more)
   linked_if found false more = None
 
+  -- the names of parts that are taken one by one are those of all parts, if each has its form
   parts_are_linked : (found : List Link) (parts : List (Result T ItemFault))
       → parts_linked of found parts ≡ linked_if found (list_all is_ok parts) (map of (filter_map result_ok parts))
   parts_are_linked found [] = ap Some (sym (append-nil found))
@@ -98,6 +99,7 @@ module _ {T : Type 0} (of : T → Link) where
   part_linked found next parts rest read part e r n =
       ap (λ (m : List Link). parts_linked of m rest) n ∙ sym (ap (parts_linked of found) (e ∙ ap (λ x. x ∷ rest) r))
 
+  -- the names of all parts, by whether each has its form, are those that a list gets
   by_test : (found : List Link) (parts : List T) (b : Bool)
       → linked_if found b (map of parts) ≡ links_more found (map_ok (map of) (fields_if b parts))
   by_test found parts true = refl
@@ -117,11 +119,13 @@ module _ {T : Type 0} (of : T → Link) where
   none_is : (body : List ℕ) → (length body == 0) ≡ true → nat_lt 0 (length body) ≡ false
   none_is body h = grind (arith, nat_tests)
 
+  -- an empty body breaks its form
   none_in : (found : List Link) (body : List ℕ) (parts : List (Result T ItemFault)) → (length body == 0) ≡ true
       → links_more found (map_ok (map of) (parts_of body parts)) ≡ None
   none_in found body parts h = ap
       (λ b. links_more found (map_ok (map of) (fields_if (b && list_all is_ok parts) (filter_map result_ok parts)))) (none_is body h)
 
+-- an item that breaks its form as an INODE_REF and as an INODE_EXTREF breaks it whatever it is
 by_kind : (found : List Link) (b : Bool) (refs exts : Result (List Link) ItemFault) → links_more found refs ≡ None
     → links_more found exts ≡ None → links_more found (cond b refs exts) ≡ None
 by_kind found true refs exts h k = h
@@ -142,6 +146,7 @@ refs_are found key body some h =
     (cond b (map_ok (map (inode_link key.offset body)) (parts_of body (inode_refs_of body)))
     (map_ok (map (ext_link body)) (parts_of body (ext_refs_of body))))) (sym (is_ref key h))
 
+-- the names of an item that is no INODE_REF are those of its parts as an INODE_EXTREF
 pub ext_refs_are : (found : List Link) (key : Key) (body : List ℕ) → (length body == 0) ≡ false → key.kind ≢ 12
     → parts_linked (ext_link body) found (ext_refs_of body) ≡ links_more found (links_of key body)
 ext_refs_are found key body some h =
@@ -150,9 +155,11 @@ ext_refs_are found key body some h =
     (cond b (map_ok (map (inode_link key.offset body)) (parts_of body (inode_refs_of body)))
     (map_ok (map (ext_link body)) (parts_of body (ext_refs_of body))))) (sym (is_ext key h))
 
+-- the names of an item behind those that were found, as the definition takes them
 abbrev name_body : List Link → TreeItem → Lookup (Result (List Link) (List Link))
 name_body found item = bind (formed item (links_of item.key item.body) (λ more. Return (found ++ more))) (λ st. Return (Ok st))
 
+-- an item adds its names, by their form, in the definition as in the code
 name_body_is : (found : List Link) (item : TreeItem) (r : Result (List Link) ItemFault) →
     let p : Lookup (Result (List Link) (List Link)) =
     bind (formed item r (λ more. Return (found ++ more))) (λ st. Return (Ok st)) in

@@ -45,12 +45,14 @@ module _ (wanted : Wanted) where
   abbrev link_next : List Link → TreeItem → Next (List Link) (List Link)
   link_next found item = formed_next (links_of item.key item.body) (λ more. Go (found ++ more))
 
+  -- the search that stands for the names that were found
   abbrev link_search : List Link → LinkSearch
   link_search found = record { wanted = wanted; met = met_links (link_in wanted) met.None found }
 
   abbrev link_body : List Link → TreeItem → Lookup (Result (List Link) (List Link))
   link_body found item = bind (formed item (links_of item.key item.body) (λ more. Return (found ++ more))) (λ st. Return (Ok st))
 
+  -- an item's names are added in the definition as in the code, by their form
   link_body_is : (found : List Link) (item : TreeItem) (r : Result (List Link) ItemFault) →
       let p : Lookup (Result (List Link) (List Link)) =
       bind (formed item r (λ more. Return (found ++ more))) (λ st. Return (Ok st)) in p ≡ next_prog item.leaf (formed_next r (λ more. Go (found ++ more)))
@@ -78,12 +80,14 @@ module _ (tree : ℕ) (wanted : Wanted) where
   abbrev mount_next : List Mount → TreeItem → Next (List Mount) (List Mount)
   mount_next found item = formed_next (root_ref_of item.body) (λ part. Go (found ++ mount_of item.key item.body part ∷ []))
 
+  -- the search that stands for the names of a subvolume that were found
   abbrev mount_search : List Mount → MountSearch
   mount_search found = record { tree = tree; wanted = wanted; met = met_mounts Wants met.None found }
 
   abbrev mount_body : List Mount → TreeItem → Lookup (Result (List Mount) (List Mount))
   mount_body found item = bind (formed item (root_ref_of item.body) (λ part. Return (found ++ mount_of item.key item.body part ∷ []))) (λ st. Return (Ok st))
 
+  -- the name in a ROOT_BACKREF is added in the definition as in the code, by its form
   mount_body_is : (found : List Mount) (item : TreeItem) (r : Result RootRef ItemFault) →
       let p : Lookup (Result (List Mount) (List Mount)) =
       bind (formed item r (λ part. Return (found ++ mount_of item.key item.body part ∷ []))) (λ st. Return (Ok st)) in

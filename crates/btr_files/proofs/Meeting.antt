@@ -16,6 +16,7 @@ use Rattle.btr_files.specs.Names.{Link, Mount, inode_link, ext_link, parts_of, l
 use Rattle.btr_files.specs.Steps.{met_more, met_links, links_met, is_one, parts_met}
 
 module _ (wanted : Link) where
+  -- where several names were met there isn't one, however many come behind them
   several_stay : (links : List Link) → is_one (met_links wanted met.Several links) ≡ false
   several_stay [] = refl
   several_stay (link ∷ links) = several_stay links
@@ -32,6 +33,7 @@ module _ (wanted : Link) where
     met_if seen true links = Some (met_links wanted seen links)
     met_if seen false links = None
 
+    -- the names of parts that are met one by one are those of all parts, if each has its form
     pub parts_are_met : (seen : Met) (parts : List (Result T ItemFault))
         → parts_met wanted of seen parts ≡ met_if seen (list_all is_ok parts) (map of (filter_map result_ok parts))
     parts_are_met seen [] = refl
@@ -49,6 +51,7 @@ module _ (wanted : Link) where
     part_more seen next parts rest read part e r n =
         ap (λ (m : Met). parts_met wanted of m rest) n ∙ sym (ap (parts_met wanted of seen) (e ∙ ap (λ x. x ∷ rest) r))
 
+    -- what was met of all parts, by whether each has its form
     by_test : (seen : Met) (links : List T) (b : Bool) → met_if seen b (map of links) ≡ links_met wanted seen (map_ok (map of) (fields_if b links))
     by_test seen links true = refl
     by_test seen links false = refl
@@ -73,6 +76,7 @@ module _ (wanted : Link) where
     names_empty seen body parts h = ap (λ b. links_met wanted seen
         (map_ok (map of) (fields_if (b && list_all is_ok parts) (filter_map result_ok parts)))) (none_is body h)
 
+  -- an item that breaks its form as an INODE_REF and as an INODE_EXTREF breaks it whatever it is
   by_kind : (seen : Met) (b : Bool) (refs exts : Result (List Link) ItemFault) → links_met wanted seen refs ≡ None → links_met wanted seen exts ≡ None
       → None ≡ links_met wanted seen (cond b refs exts)
   by_kind seen true refs exts h k = sym h
@@ -98,6 +102,7 @@ module _ (wanted : Link) where
       ap (λ (b : Bool). links_met wanted seen (cond b (map_ok (map (inode_link key.offset body)) (parts_of body (inode_refs_of body)))
       (map_ok (map (ext_link body)) (parts_of body (ext_refs_of body))))) (sym (is_ref key h))
 
+  -- what is met of an item that is no INODE_REF is what its parts as an INODE_EXTREF have
   pub by_exts : (seen : Met) (key : Key) (body : List ℕ) → key.kind ≢ 12
       → links_met wanted seen (map_ok (map (ext_link body)) (parts_of body (ext_refs_of body))) ≡ links_met wanted seen (links_of key body)
   by_exts seen key body h =
@@ -113,10 +118,12 @@ abbrev pub met_mounts : Mount → Met → List Mount → Met
 met_mounts wanted = fold (λ seen found. met_more seen (same_mount found wanted))
 
 module _ (wanted : Mount) where
+  -- where several names of a subvolume were met there isn't one, however many come behind them
   many_stay : (mounts : List Mount) → is_one (met_mounts wanted met.Several mounts) ≡ false
   many_stay [] = refl
   many_stay (mount ∷ mounts) = many_stay mounts
 
+  -- what was met of all names of a subvolume says whether they are the one
   pub one_is_mount : (mounts : List Mount) → is_one (met_mounts wanted met.None mounts) ≡ is_mount wanted mounts
   one_is_mount [] = refl
   one_is_mount (mount ∷ []) = refl

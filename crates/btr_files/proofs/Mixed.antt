@@ -9,6 +9,7 @@ use Rattle.btr_prog.specs.Prog.{BlockMap, Prog, Return, Stop, Need, Emit, Wants,
 use Rattle.btr_prog.specs.Shows.{AreAlike, OnlyShows}
 use Rattle.btr_prog.specs.Thread.{thread, go_on}
 
+-- two steps are the same
 abbrev Same : {S : Type 0} → S → S → Type 0
 Same s t = s ≡ t
 
@@ -27,17 +28,20 @@ module _ {W F S : Type 0} (plain : W → Bool) (Fits : W → List ℕ → Type 0
       ((bytes : List ℕ) → ShowsOne (k bytes)) × (IsTrue (plain w) → ((bytes others : List ℕ) → k bytes ≡ k others) ⊎ OneStep w k)
   ShowsOne (Emit s p) = ShowsOne p
 
+  -- one program after another shows each such want by one step at most, where each of them does
   pub one_bind : {A C : Type 0} (p : Prog W F S A) (k : A → Prog W F S C) → ShowsOne p → ((a : A) → ShowsOne (k a)) → ShowsOne (bind p k)
   one_bind (Return a) k h g = g a
   one_bind (Stop f) k h g = tt
   one_bind {A} {C} (Need w l) k h g = (λ bytes. one_bind (l bytes) k (h.0 bytes) g, λ t. on (h.1 t))
     where
+      -- with more behind it, what follows a want stays the same, or one step for its bytes
       on : ((bytes others : List ℕ) → l bytes ≡ l others) ⊎ OneStep w l
           → ((bytes others : List ℕ) → bind (l bytes) k ≡ bind (l others) k) ⊎ OneStep w (λ bytes. bind (l bytes) k)
       on (inl e) = inl (λ b c. ap (λ (x : Prog W F S A). bind x k) (e b c))
       on (inr o) = inr (o.0, bind o.1 k, λ b. ap (λ (x : Prog W F S A). bind x k) (o.2 b), o.3)
   one_bind (Emit s p) k h g = one_bind p k h g
 
+  -- going on with such programs, or ending, is such a program
   one_on : {St A : Type 0} (k : St → Prog W F S A) → ((st : St) → ShowsOne (k st)) → (r : Result St A) → ShowsOne (go_on k r)
   one_on k h (Ok st) = h st
   one_on k h (Err x) = tt
@@ -79,6 +83,7 @@ module _ {S : Type 0} (R : S → S → Type 0) where
   Mixed (x ∷ xs) ys =
       (y : ℕ → S) × (zs : ℕ → List S) × ((n : ℕ) → ys n ≡ y n ∷ zs n) × ((n : ℕ) × (x ≡ y n)) × ((n : ℕ) → R x (y n)) × Mixed xs zs
 
+  -- a mix of some lists is one of lists that are the same
   mixed_as : (xs : List S) (ys zs : ℕ → List S) → ((n : ℕ) → ys n ≡ zs n) → Mixed xs zs → Mixed xs ys
   mixed_as [] ys zs e h = λ n. e n ∙ h n
   mixed_as (x ∷ xs) ys zs e h = (h.0, h.1, λ n. e n ∙ h.2 n, h.3, h.4, h.5)
@@ -94,6 +99,7 @@ has_bytes true (Ok c) y bytes (inr h) is = (c, refl, λ f. absurd (cc))
 has_bytes true (Err f) y bytes (inr h) is = absurd h.1
 has_bytes false x y bytes (inr h) is = absurd (never_true h.0)
 
+-- where one fate is a fault, so is one that is alike
 has_fault : {F : Type 0} (b : Bool) (x y : Result (List ℕ) F) (f : F) → IsAlike b x y → y ≡ Err f → x ≡ Err f
 has_fault b x y f (inl e) is = e ∙ is
 has_fault b x y f (inr h) is = absurd (subst (λ z. IsWhole z) is h.2)
@@ -133,6 +139,7 @@ module _ {W F S A : Type 0} (plain : W → Bool) (Fits : W → List ℕ → Type
         let g = has_bytes (plain w) (Bs n w) (Bs 0 w) z.0 (alike n w) z.1 in
         (g.0, g.1, λ f. g.2 f ∙ sym (z.2 f))
 
+    -- under each map that has bytes for the want, the run goes on with them
     goes_on : (n : ℕ) (c : List ℕ) → Bs n w ≡ Ok c → exec (Bs n) (Need w k) ≡ first (Wants w) (exec (Bs n) (k c))
     goes_on n c is = ap (λ x. first (Wants w) (given x (λ bytes. exec (Bs n) (k bytes)))) is
 
@@ -171,10 +178,12 @@ module _ {W F S A : Type 0} (plain : W → Bool) (Fits : W → List ℕ → Type
       λ n. ap (λ x. first (Wants w) (given x (λ bytes. exec (Bs n) (k bytes)))) (lacks n) in
       (λ n. ap (λ (r : Run W F S A). steps_of r.marks) (there n), λ n. ap (λ (r : Run W F S A). r.ending) (there n))
     where
+      -- the first map has the want's fault
       lacks_first : (z : Result (List ℕ) F) → Bs 0 w ≡ z → Bs 0 w ≡ Err f
       lacks_first (Ok c) h = let g = has_bytes (plain w) (Bs i w) (Bs 0 w) c (alike i w) h in absurd (never_both (Bs i w) g.0 f g.1 got)
       lacks_first (Err g) h = h ∙ ap Err (same_fault (Bs i w) f g got (has_fault (plain w) (Bs i w) (Bs 0 w) g (alike i w) h))
 
+      -- each map has the want's fault
       lacks : (n : ℕ) → Bs n w ≡ Err f
       lacks n = has_fault (plain w) (Bs n w) (Bs 0 w) f (alike n w) (lacks_first (Bs 0 w) refl)
 
@@ -188,6 +197,7 @@ module _ {W F S A : Type 0} (plain : W → Bool) (Fits : W → List ℕ → Type
 
   module _ (w : W) (k : List ℕ → Prog W F S A) (h : ShowsOne plain Fits R (Need w k)) (i : ℕ) (q : Run W F S A)
       (next : (b : List ℕ) → GoesTo Bs (k b) q → IsMix (k b) q) where
+    -- behind a want that passes the test comes the same or one step: its run is a mix
     mix_shown : (b : List ℕ) → Bs i w ≡ Ok b → GoesTo Bs (k b) q → ((bytes others : List ℕ) → k bytes ≡ k others) ⊎ OneStep plain Fits R w k
         → IsMix (Need w k) (first (Wants w) q)
     mix_shown b got goes (inl e) = mix_same w k i b got q (λ n. e (had w k i b got n).0 b) (next b goes)
@@ -198,10 +208,12 @@ module _ {W F S A : Type 0} (plain : W → Bool) (Fits : W → List ℕ → Type
         subst (λ (r : Run W F S A). IsMix (Need w k) (first (Wants w) r)) (sym on.1)
         (mix_step w k i b got o.0 o.1 o.2 o.3 on.0 (mix_rest (o.0 b) o.1 on.0 mix))
 
+    -- a run from a want on is a mix, by whether the want passes the test
     mix_by : (b : List ℕ) → Bs i w ≡ Ok b → GoesTo Bs (k b) q → (t : Bool) → plain w ≡ t → IsMix (Need w k) (first (Wants w) q)
     mix_by b got goes false tested = mix_same w k i b got q (λ n. ap k ((had w k i b got n).2 tested)) (next b goes)
     mix_by b got goes true tested = mix_shown b got goes (h.1 tested)
 
+    -- a run from a want on is a mix, by what one of the maps says of the want
     mix_need : (x : Result (List ℕ) F) → Bs i w ≡ x → goes_given x (λ bytes. GoesTo Bs (k bytes)) q → IsMix (Need w k) (first (Wants w) q)
     mix_need (Ok b) got goes = mix_by b got goes (plain w) refl
     mix_need (Err f) got goes = subst (λ (r : Run W F S A). IsMix (Need w k) (first (Wants w) r)) (sym goes) (mix_fault w k i f got)

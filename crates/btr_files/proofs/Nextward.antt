@@ -28,23 +28,28 @@ use Rattle.btr_files.proofs.Rows.{scan_of, rest_is}
 
 -- ---- where more was seen, a scan can still go on
 
+-- the blocks that a scan goes on from are among those that were wanted, however many were wanted since
 pub rest_more : (B : Map) (seen more : List Want) (rest : Rest) → IsRestOn B seen rest → IsRestOn B (seen ++ more) rest
 rest_more B seen more rest on = on_more rest.lo rest.hi B seen more rest.place on
 
 module _ (source : Source) (Is : UnreadBlock → Want → Type 0) (B : Map) (old new : Blocks) (p : Progress) (scan scan' : Scan) (is : scan ≡ scan_of p.rest)
     (next : p.todo ≡ Next) where
+  -- where nothing more is to come of an extent, what is left behind it is what is left of the file
   to_left : (kind : SumKind) (Bs : ℕ → Map) (q : Pieces) → Onward kind source Bs p.at p.end (exec B (left_of B old scan)) q → LeftBy kind source Bs B p q
   to_left kind Bs q h =
       let same : left_of B old scan ≡ rest_left B p.rest = ap (left_of B old) is ∙ sym (rest_is B old p.rest) in
       subst (λ (t : Todo). Then kind source Bs (todo_prog kind source p.at p.end (inline_of (met_last B p.rest)) t) (exec B (rest_left B p.rest)) q) (sym next)
       (subst (λ (r : RangeProg). Onward kind source Bs p.at p.end (exec B r) q) same h)
 
+  -- where a file goes on, its scan does
   on_scan : (seen : List Want) → IsGoing B seen p → IsOn scan.lo scan.hi B seen scan.place
   on_scan seen going = subst (λ (s : Scan). IsOn s.lo s.hi B seen s.place) (sym is) going.rest
 
+  -- a fault of the look for the next extent is one of the file
   pub looked_err : (f : TreeFault) → IsNextExtent source Is B old new scan scan' p.end (Err f) → IsLooked source Is B p (Err f)
   looked_err f n seen going kind Bs = let h = n seen (on_scan seen going) kind Bs p.at in (h.0, to_left kind Bs h.0 h.1, h.2)
 
+  -- where there is no extent more, what is left of the file are the zeros up to its size
   pub looked_none : IsNextExtent source Is B old new scan scan' p.end (Ok None)
       → IsLooked source Is B p (Ok (record { rest = p.rest; at = p.at; end = p.end; todo = Over }))
   looked_none n seen going =
@@ -56,6 +61,7 @@ module _ (source : Source) (Is : UnreadBlock → Want → Type 0) (B : Map) (old
       }
 
   module _ (lo : scan'.lo ≡ scan.lo) (hi : scan'.hi ≡ scan.hi) (rest : Rest) (r : Rests new scan' rest) where
+    -- where the next extent was found, what is left of the file is what is left of that extent
     pub looked_some : (ahead : Ahead) → IsSomeAnd scan'.leaf (λ l. (0 < l.next) × (l.next ≤ l.end))
         → IsNextExtent source Is B old new scan scan' p.end (Ok (Some ahead))
         → IsLooked source Is B p (Ok (record { rest = rest; at = p.at; end = ahead.end; todo = ahead.todo }))

@@ -35,6 +35,7 @@ module _ (source : Source) (B : Map) (first : Blocks) (scan0 : Scan) (end0 : ℕ
   abbrev pub Gone : Blocks → Scan → ℕ → Type 0
   Gone store scan end = (seen : List Want) → IsOn scan0.lo scan0.hi B seen scan0.place → Passes source B seen first store scan0 scan end0 end
 
+  -- what is left after the first extent leads to itself, where no other was passed
   pub gone_none : Gone first scan0 end0
   gone_none seen on = record {
     past = [];
@@ -45,9 +46,11 @@ module _ (source : Source) (B : Map) (first : Blocks) (scan0 : Scan) (end0 : ℕ
 
   module _ (Was Is : UnreadBlock → Want → Type 0) (store : Blocks) (scan : Scan) (end : ℕ) (lo : scan.lo ≡ scan0.lo) (hi : scan.hi ≡ scan0.hi)
       (gone : Gone store scan end) where
+    -- a scan that goes on by the first one's bounds does so by its own
     on_here : (seen : List Want) → IsOn scan0.lo scan0.hi B seen scan.place → IsOn scan.lo scan.hi B seen scan.place
     on_here seen on = subst (λ (k : Key). IsOn k scan.hi B seen scan.place) (sym lo) (subst (λ (k : Key). IsOn scan0.lo k B seen scan.place) (sym hi) on)
 
+    -- a scan that goes on from there does so by the first one's bounds, behind all wants
     on_there : (seen xs ys : List Want) (scan' : Scan) → IsOn scan.lo scan.hi B ((seen ++ xs) ++ ys) scan'.place
         → IsOn scan0.lo scan0.hi B (seen ++ (xs ++ ys)) scan'.place
     on_there seen xs ys scan' on =
@@ -55,11 +58,13 @@ module _ (source : Source) (B : Map) (first : Blocks) (scan0 : Scan) (end0 : ℕ
         (subst (λ (k : Key). IsOn k scan0.hi B ((seen ++ xs) ++ ys) scan'.place) lo
         (subst (λ (k : Key). IsOn scan.lo k B ((seen ++ xs) ++ ys) scan'.place) hi on))
 
+    -- the leaf in hand there is among all wants, however they are split
     held_there : (seen xs ys : List Want) (new : Blocks) (scan' : Scan) → HoldsLeaf B ((seen ++ xs) ++ ys) new scan'
         → HoldsLeaf B (seen ++ (xs ++ ys)) new scan'
     held_there seen xs ys new scan' h = subst (λ (z : List Want). HoldsLeaf B z new scan') (append_assoc seen xs ys) h
 
     module _ (new : Blocks) (scan' : Scan) where
+      -- where an extent without bytes comes next, what is left leads on to what is left after that one
       pub gone_more : (ahead : Ahead) → ahead.todo ≡ Next → IsNextExtent source Was B store new scan scan' end (Ok (Some ahead)) → Gone new scan' ahead.end
       gone_more ahead is n seen on =
           let x = gone seen on in
@@ -76,6 +81,7 @@ module _ (source : Source) (B : Map) (first : Blocks) (scan0 : Scan) (end0 : ℕ
             held = λ h. held_there seen x.past y.past new scan' (y.held (x.held h));
           }
 
+      -- the next extent behind those that were passed is the next one behind the first
       pub gone_some : (ahead : Ahead) → IsNextExtent source Was B store new scan scan' end (Ok (Some ahead))
           → IsNextExtent source Is B first new scan0 scan' end0 (Ok (Some ahead))
       gone_some ahead n seen on =
@@ -93,6 +99,7 @@ module _ (source : Source) (B : Map) (first : Blocks) (scan0 : Scan) (end0 : ℕ
             met = y.met;
           }
 
+      -- where no extent is left behind those that were passed, none with bytes is left behind the first
       pub gone_end : IsNextExtent source Was B store new scan scan' end (Ok None) → IsNextExtent source Is B first new scan0 scan' end0 (Ok None)
       gone_end n seen on =
           let x = gone seen on in
@@ -104,6 +111,7 @@ module _ (source : Source) (B : Map) (first : Blocks) (scan0 : Scan) (end0 : ℕ
                 (x.goes kind Bs at (prepend (want_marks y.past) q) (y.goes kind Bs at q h));
           }
 
+      -- a fault behind the extents that were passed is one behind the first
       pub gone_err : (f : TreeFault) → ((u : UnreadBlock) (w : Want) → Was u w → Is u w) → IsNextExtent source Was B store new scan scan' end (Err f)
           → IsNextExtent source Is B first new scan0 scan' end0 (Err f)
       gone_err f weaker n seen on kind Bs at =

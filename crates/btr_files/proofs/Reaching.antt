@@ -44,11 +44,13 @@ module _ (source : Source) (Is : UnreadBlock → Want → Type 0) (B : Map) (old
   abbrev behind : Items
   behind = exec B (left_of B new scan')
 
+  -- a fault of the scan is one of the look for the next extent
   pub extent_err : (f : TreeFault) → IsNextOn Is B old new scan scan' (Err f) → IsNextExtent source Is B old new scan scan' end (Err f)
   extent_err f n seen on kind Bs at =
       let h = treats_halts kind source Bs Is seen (given at end) items (halt_of f) (n seen on) in
       (h.0, then_of kind source Bs (Ok (given at end)) items h.0 h.1, h.2)
 
+  -- where the scan has no item more, the file has no extent more
   pub extent_none : IsNextOn Is B old new scan scan' (Ok None) → IsNextExtent source Is B old new scan scan' end (Ok None)
   extent_none n seen on =
       let f = n seen on in
@@ -64,6 +66,7 @@ module _ (source : Source) (Is : UnreadBlock → Want → Type 0) (B : Map) (old
     abbrev item : TreeItem
     item = item_of found
 
+    -- what is left behind an extent leads to what comes of the item that the scan gives
     onward : (r : Result Ahead TreeFault) → ahead_of source.size end item ≡ r → (kind : SumKind) (Bs : ℕ → Map) (at : ℕ) (q : Pieces)
         → Then kind source Bs (ahead_prog kind source at item r) behind q → Onward kind source Bs at end items (prepend (want_marks g.past) q)
     onward r e kind Bs at q h =
@@ -73,6 +76,7 @@ module _ (source : Source) (Is : UnreadBlock → Want → Type 0) (B : Map) (old
         (then_of kind source Bs (Ok (given at end)) _ (prepend (want_marks g.past) q)
         (treats_past kind source Bs g.past (given at end) (first (Does item) behind) q t))
 
+    -- an item that comes to something to give leads on to what is left of its extent
     some_ahead : (ahead : Ahead) → ahead_of source.size end item ≡ Ok ahead → LeadsOn source B seen old new scan scan' end ahead
     some_ahead ahead e = record {
       past = g.past;
@@ -84,6 +88,7 @@ module _ (source : Source) (Is : UnreadBlock → Want → Type 0) (B : Map) (old
       met = g.met;
     }
 
+    -- an item that comes to a fault leads to that fault
     some_fault : (f : TreeFault) → ahead_of source.size end item ≡ Err f → HaltsAt source Is B seen old scan end f
     some_fault f e kind Bs at =
         let broken : Pieces = run [] (Err (fate.Malformed item.leaf)) in (
@@ -94,10 +99,12 @@ module _ (source : Source) (Is : UnreadBlock → Want → Type 0) (B : Map) (old
               (wants_fault Is seen g.past (prepend (want_marks g.past) broken) (fate.Malformed item.leaf) refl),
         )
 
+  -- where the scan gave an item of a clear extent in its order, that is the next extent
   pub extent_some : (found : Found) (ahead : Ahead) → ahead_of source.size end (item_of found) ≡ Ok ahead
       → IsNextOn Is B old new scan scan' (Ok (Some found)) → IsNextExtent source Is B old new scan scan' end (Ok (Some ahead))
   extent_some found ahead e n seen on = some_ahead found seen (n seen on) ahead e
 
+  -- where the scan gave an item that isn't the next clear extent, the look ends with that fault
   pub extent_fault : (found : Found) (f : TreeFault) → ahead_of source.size end (item_of found) ≡ Err f
       → IsNextOn Is B old new scan scan' (Ok (Some found)) → IsNextExtent source Is B old new scan scan' end (Err f)
   extent_fault found f e n seen on = some_fault found seen (n seen on) f e

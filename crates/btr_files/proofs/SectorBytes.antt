@@ -32,15 +32,18 @@ module _ (B : Map) (kind : SumKind) (sums : Option TreeRoot) (nosum : Bool) (siz
 
   -- ---- sectors
   module _ (addr : ℕ) (want : Want) (bytes : List ℕ) (had : B want ≡ Ok bytes) where
+    -- what the want comes to is as long as the want asks
     long_for : (w : Want) → w ≡ want → IsSectorLong w bytes
     long_for w e = subst (λ (x : Want). IsSectorLong x bytes) (sym e) (whole want bytes had)
 
+    -- a sector whose want came by its checksum has 4096 bytes
     long_by : (ms : List (Mark Want ⊥)) (e : Result (Option Sum) Fault) → (after ms e (λ sum. exec B (Return (want_by addr sum)))).ending ≡ Ok want
         → length bytes ≡ 4096
     long_by ms (Ok None) h = long_for (Plain addr) (cc)
     long_by ms (Ok (Some sum)) h = long_for (Sector addr sum) (cc)
     long_by ms (Err f) h = let z : ⊥ = cc in absurd z
 
+    -- a sector has 4096 bytes, whether its inode has checksums or not
     long_if : (b : Bool) → (exec B (cond b (Return (Plain addr)) (bind (sum_at kind sums addr) (λ sum. Return (want_by addr sum))))).ending ≡ Ok want
         → length bytes ≡ 4096
     long_if true h = long_for (Plain addr) (cc)
@@ -52,6 +55,7 @@ module _ (B : Map) (kind : SumKind) (sums : Option TreeRoot) (nosum : Bool) (siz
   -- one sector, from a position on
   module _ (f : ℕ → ℕ) (addr from : ℕ) (aligned : addr % 4096 ≡ 0) (low : from ≤ size)
       (told : (p : ℕ) → from ≤ p → p < from + 4096 → f p ≡ byte_at (addr + (p - from))) where
+    -- a byte of a sector that starts at a whole sector's address is the one at its own address
     read_there : (bytes : List ℕ) → sector_bytes B kind sums nosum addr ≡ bytes → (i : ℕ) → i < 4096 → byte_at (addr + i) ≡ slice_index bytes i
     read_there bytes same i lt =
         let in_sector : (addr + i) % 4096 ≡ i = omega (arith, aligned, lt) in
@@ -59,6 +63,7 @@ module _ (B : Map) (kind : SumKind) (sums : Option TreeRoot) (nosum : Bool) (siz
         ∙ ap (λ (n : ℕ). slice_index (sector_bytes B kind sums nosum n) i) (omega (arith))
         ∙ ap (λ (bs : List ℕ). slice_index bs i) same
 
+    -- one sector, cut at the size, is the bytes at its addresses
     one_sector : (bytes : List ℕ) → length bytes ≡ 4096 → sector_bytes B kind sums nosum addr ≡ bytes
         → Fills f from (min (from + 4096) size) (take (size - from) bytes)
     one_sector bytes long same =
@@ -100,15 +105,19 @@ module _ (B : Map) (kind : SumKind) (sums : Option TreeRoot) (nosum : Bool) (siz
     abbrev W : Lookup Want
     W = sector_want kind sums nosum addr
 
+    -- the sectors behind the first, up to the size
     abbrev rest : Program Piece (Unit {0})
     rest = sectors kind sums nosum n (addr + 4096) (size - from - 4096)
 
+    -- the piece of the first sector, cut at the size, and then the sectors behind it
     abbrev cut_sector : Want → List ℕ → Program Piece (Unit {0})
     cut_sector want bytes = Emit (Bytes (take (size - from) bytes) (not (is_plain want))) rest
 
+    -- where a run of these sectors ends well, it gives the bytes at their addresses, up to the size
     abbrev Told : Answer (Unit {0}) → Type 0
     Told r = r.ending ≡ Ok tt → Fills f from (min (from + (suc n * 4096)) size) (bytes_in r.marks)
 
+    -- the first sector by its bytes, and then the others
     of_bytes : (ms : List (Mark Want ⊥)) (want : Want) → (exec B W).ending ≡ Ok want → (x : Result (List ℕ) Fault) → B want ≡ x
         → Told (after (quiet_marks ms) (Ok want) (λ w. first (Wants want) (given x (λ bytes. exec B (cut_sector want bytes)))))
     of_bytes ms want wanted (Ok bytes) had ok =
@@ -121,17 +130,20 @@ module _ (B : Map) (kind : SumKind) (sums : Option TreeRoot) (nosum : Bool) (siz
         (sectors_behind n ih f addr from aligned low high told ok))
     of_bytes ms want wanted (Err fault) had ok = let z : ⊥ = cc in absurd z
 
+    -- the first sector by its want, and then the others
     of_want : (ms : List (Mark Want ⊥)) (e : Result Want Fault) → (exec B W).ending ≡ e
         → Told (after (quiet_marks ms) e (λ want. exec B (Need want (cut_sector want))))
     of_want ms (Ok want) wanted ok = of_bytes ms want wanted (B want) refl ok
     of_want ms (Err fault) wanted ok = let z : ⊥ = cc in absurd z
 
+    -- the lookup of the first sector's want, its bytes, and then the others
     sectors_more : Told (exec B (looks W (λ want. Need want (cut_sector want))))
     sectors_more =
         subst Told (sym (exec-bind B (quiet W) (λ want. Need want (cut_sector want))
         ∙ ap (λ (r : Answer Want). and_then r (λ want. exec B (Need want (cut_sector want)))) (exec-quiet B W)))
         (of_want (exec B W).marks (exec B W).ending refl)
 
+  -- sectors that all came are the bytes at their addresses, cut at the size
   pub sectors_fill : (n : ℕ) → Sectored n
   sectors_fill zero f addr from left is aligned low high told ok =
       let same : from ≡ min (from + 0) size = omega (arith, low) in

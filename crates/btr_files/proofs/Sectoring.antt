@@ -27,7 +27,7 @@ use Rattle.btr_files.specs.declared.progress.Todo.TheVariants.{Sectors}
 use Rattle.btr_files.specs.declared.streaming.Shown.TheVariants as shown
 use Rattle.btr_files.specs.declared.streaming.Span.TheVariants as span
 use Rattle.btr_files.specs.Content.{Piece, Bytes, sector_want, sectors}
-use Rattle.btr_files.specs.Streaming.{Given, behind_bytes, todo_prog, Then, LeftBy, IsGoing}
+use Rattle.btr_files.specs.Streaming.{GivenUpTo, behind_bytes, todo_prog, Then, LeftBy, IsGoing}
 use Rattle.btr_files.specs.Giving.{given_up_to, after_end, after_sector, SectorComes, IsGiven}
 use Rattle.btr_files.proofs.Binds.{bind_assoc}
 use Rattle.btr_files.proofs.Nextward.{rest_more}
@@ -45,41 +45,51 @@ at_most_one n h = grind (arith, nat_tests)
 
 module _ (kind : SumKind) (source : Source) (Bs : ℕ → Map) (p : Progress) (part : SectorPart) (todo : p.todo ≡ Sectors part) (at_start : p.at ≡ part.start)
     (some : 0 < part.count) where
+  -- how many sectors come behind the first
   abbrev more : ℕ
   more = part.count - 1
 
+  -- how many bytes of the file are left from the first sector on
   abbrev left : ℕ
   left = source.size - part.start
 
+  -- the lookup of the first sector's want
   abbrev W : Lookup Want
   W = sector_want kind source.sums source.nosum part.addr
 
-  abbrev X : Unit {0} → Program Piece (Result Given ℕ)
+  -- what comes behind the extent's bytes
+  abbrev X : Unit {0} → Program Piece (Result GivenUpTo ℕ)
   X u = behind_bytes kind source p.end
 
+  -- so many sectors behind the first
   abbrev rest : ℕ → Program Piece (Unit {0})
   rest n = sectors kind source.sums source.nosum n (part.addr + 4096) (left - 4096)
 
   -- the sectors behind the first, and then what comes behind the extent
-  abbrev S : Program Piece (Result Given ℕ)
+  abbrev S : Program Piece (Result GivenUpTo ℕ)
   S = bind (rest more) X
 
+  -- the piece of the first sector
   abbrev piece_with : Want → List ℕ → Piece
   piece_with want bytes = Bytes (take left bytes) (not (is_plain want))
 
-  abbrev K : Want → Program Piece (Result Given ℕ)
+  -- the first sector by its want, and then all that is left of the extent
+  abbrev K : Want → Program Piece (Result GivenUpTo ℕ)
   K want = Need want (λ bytes. Emit (piece_with want bytes) S)
 
+  -- the first sector by its want, and then the other sectors
   abbrev one : Want → Program Piece (Unit {0})
   one want = Need want (λ bytes. Emit (piece_with want bytes) (rest more))
 
+  -- the sectors of the extent are the first one and the others
   sectors_are : sectors kind source.sums source.nosum part.count part.addr left ≡ looks W one
   sectors_are = let e : part.count ≡ suc more = omega (arith, some) in ap (λ n. sectors kind source.sums source.nosum n part.addr left) e
 
   -- what is left is the first sector, and then the others
-  abbrev whole : Program Piece (Result Given ℕ)
+  abbrev whole : Program Piece (Result GivenUpTo ℕ)
   whole = todo_prog kind source p.at p.end (inline kind source Bs p) (Sectors part)
 
+  -- what is left of the extent is the lookup of the first sector's want, and what comes by it
   whole_is : whole ≡ looks W K
   whole_is =
       let none : part.start - p.at ≡ 0 = omega (arith, at_start) in
@@ -90,9 +100,11 @@ module _ (kind : SumKind) (source : Source) (Bs : ℕ → Map) (p : Progress) (p
       → Then kind source Bs (bind (rest n) X) (ahead kind source Bs p) q
   last_by n q e h = subst (λ (m : ℕ). Then kind source Bs (bind (rest m) X) (ahead kind source Bs p) q) (sym e) h
 
+  -- the sectors behind the first, as what is still to come
   abbrev next_part : SectorPart
   next_part = record { start = part.start + 4096; addr = part.addr + 4096; count = more }
 
+  -- what is left of the file behind the first sector, by whether it was the last one
   left_by : (b : Bool) (q : Pieces) → nat_le part.count 1 ≡ b
       → LeftBy kind source Bs (Bs 0) (cond b (after_end source.size p) (given_up_to p (part.start + 4096) (Sectors next_part))) q
       → Then kind source Bs S (ahead kind source Bs p) q
@@ -103,12 +115,14 @@ module _ (kind : SumKind) (source : Source) (Bs : ℕ → Map) (p : Progress) (p
       let none : (part.start + 4096) - (part.start + 4096) ≡ 0 = omega arith in
       let same : source.size - (part.start + 4096) ≡ left - 4096 = omega arith in
       subst (λ (n : ℕ). Then kind source Bs (bind (sectors kind source.sums source.nosum more (part.addr + 4096) n) X) (ahead kind source Bs p) q) same
-      (subst (λ (x : Program Piece (Result Given ℕ)). Then kind source Bs x (ahead kind source Bs p) q)
+      (subst (λ (x : Program Piece (Result GivenUpTo ℕ)). Then kind source Bs x (ahead kind source Bs p) q)
       (no_zeros ((part.start + 4096) - (part.start + 4096)) _ none) h)
 
+  -- what is left of the file behind the first sector are the other sectors and what comes behind them
   left_behind : (q : Pieces) → LeftBy kind source Bs (Bs 0) (after_sector source.size p part) q → Then kind source Bs S (ahead kind source Bs p) q
   left_behind q h = left_by (nat_le part.count 1) q refl h
 
+  -- behind the first sector the file can go on, by whether it was the last one
   going_by : (seen past : List Want) (b : Bool) → IsGoing (Bs 0) seen p
       → IsGoing (Bs 0) (seen ++ past) (cond b (after_end source.size p) (given_up_to p (part.start + 4096) (Sectors next_part)))
   going_by seen past true g = going_end kind source Bs p seen past g
@@ -119,6 +133,7 @@ module _ (kind : SumKind) (source : Source) (Bs : ℕ → Map) (p : Progress) (p
     abbrev looked : Run Want fate.Fault ⊥ Want
     looked = exec (Bs 0) W
 
+    -- the wants up to the sector itself
     abbrev past : List Want
     past = wants_of looked.marks ++ (want ∷ [])
 
@@ -126,10 +141,12 @@ module _ (kind : SumKind) (source : Source) (Bs : ℕ → Map) (p : Progress) (p
       abbrev given : Piece
       given = piece_with want block
 
-      goes_want : (b : Run Want fate.Fault Piece (Result Given ℕ)) → GoesTo Bs (Emit given S) b → GoesTo Bs (K want) (first (Wants want) b)
+      -- the piece and what comes behind it make a run from the sector's want on
+      goes_want : (b : Run Want fate.Fault Piece (Result GivenUpTo ℕ)) → GoesTo Bs (Emit given S) b → GoesTo Bs (K want) (first (Wants want) b)
       goes_want b h = (n, b, refl, subst (λ x. goes_given x (λ bytes. GoesTo Bs (Emit (piece_with want bytes) S)) b) (sym came) h)
 
-      goes_whole : (b : Run Want fate.Fault Piece (Result Given ℕ)) → GoesTo Bs (Emit given S) b → GoesTo Bs whole (prepend (want_marks past) b)
+      -- the piece and what comes behind it make a run of what is left of the extent
+      goes_whole : (b : Run Want fate.Fault Piece (Result GivenUpTo ℕ)) → GoesTo Bs (Emit given S) b → GoesTo Bs whole (prepend (want_marks past) b)
       goes_whole b h =
           let r : Run Want fate.Fault Piece Want = quiet_run looked in
           let b1 = first (Wants want) b in
@@ -140,6 +157,7 @@ module _ (kind : SumKind) (source : Source) (Bs : ℕ → Map) (p : Progress) (p
           subst (λ x. GoesTo Bs x (prepend (want_marks past) b)) (sym whole_is)
           (subst (GoesTo Bs (looks W K)) (ap (λ ms. prepend ms b1) (quiet_wants looked.marks) ∙ past_both (wants_of looked.marks) (want ∷ []) b) all)
 
+      -- the wants, the sector's piece and what is left behind it are what was left of the file
       left_from : (q : Pieces) → LeftBy kind source Bs (Bs 0) (after_sector source.size p part) q
           → LeftBy kind source Bs (Bs 0) p (prepend (want_marks past) (first (Does given) q))
       left_from q h =
@@ -151,15 +169,18 @@ module _ (kind : SumKind) (source : Source) (Bs : ℕ → Map) (p : Progress) (p
     -- its bytes are given
     module _ (Is : UnreadBlock → Want → Type 0) (store : Blocks) (loan : Lent) (block : List ℕ) (is : block_of store loan ≡ Some block) (len : ℕ)
         (verified : Bool) (crc : Option ℕ) (len_is : len ≡ min left (length block)) (verified_is : verified ≡ not (is_plain want)) where
+      -- what is shown of the loan's block, if it has one
       abbrev shown_by : Option (List ℕ) → Piece
       shown_by o = Bytes (take len (unwrap_or o [])) verified
 
+      -- the piece that the loan shows is that of the sector
       same_piece : piece_with want block ≡ shown_by (block_of store loan)
       same_piece =
           ap (λ b. Bytes b (not (is_plain want))) (sym (take_min left block) ∙ ap (λ m. take m block) (sym len_is))
           ∙ ap (Bytes (take len block)) (sym verified_is)
           ∙ ap shown_by (sym is)
 
+      -- a sector that came is given as the next piece
       pub sector_given : SectorComes Is Bs want store (Ok loan)
           → IsGiven kind source Is Bs p (after_sector source.size p part) store (Ok (shown.Bytes loan (span.Sector len verified crc)))
       sector_given h seen g =
@@ -173,9 +194,10 @@ module _ (kind : SumKind) (source : Source) (Bs : ℕ → Map) (p : Progress) (p
 
     -- it could not be had
     module _ (Is : UnreadBlock → Want → Type 0) (p' : Progress) (store store' : Blocks) where
-      abbrev next : List ℕ → Program Piece (Result Given ℕ)
+      abbrev next : List ℕ → Program Piece (Result GivenUpTo ℕ)
       next bytes = Emit (piece_with want bytes) S
 
+      -- where a sector didn't come, its want ends the run with the fault
       want_halts : (seen : List Want) (f : TreeFault) → SectorComes Is Bs want store (Err f) → Goes Is no_part seen Bs (K want) [] (Err (halt_of f))
       want_halts seen (tree.Lost a) h = goes_faults Bs Is no_part seen h.0 want (fate.Lost a) next h.1
       want_halts seen (tree.Unread a slot) h = goes_unread Bs Is no_part seen 0 (record { addr = a; slot = slot }) want next h
@@ -183,6 +205,7 @@ module _ (kind : SumKind) (source : Source) (Bs : ℕ → Map) (p : Progress) (p
       want_halts seen (tree.Crosses a) h = goes_faults Bs Is no_part seen h.0 want (fate.Crosses a) next h.1
       want_halts seen (tree.Malformed a) h = absurd h
 
+      -- where the sector didn't come, the step ends with its fault
       pub sector_lacked : (f : TreeFault) → SectorComes Is Bs want store (Err f) → IsGiven kind source Is Bs p p' store' (Err f)
       sector_lacked f h seen g =
           let r : Run Want fate.Fault Piece Want = quiet_run looked in

@@ -29,6 +29,7 @@ use Rattle.btr_files.specs.Streaming.{piece_of, GivesPiece, IsNextPiece, IsUnder
 use Rattle.btr_files.specs.Sums.{kind_in}
 use Rattle.btr_files.proofs.AllMaps.{all_drawn}
 
+-- a file that has come so far, with the checksums and the loan that it keeps then
 abbrev pub file_at : FileBytes → Progress → SumsAhead → Option Lent → FileBytes
 file_at file p ahead loan = record { source = file.source; progress = p; ahead = ahead; loan = loan }
 
@@ -54,9 +55,11 @@ served_back rack old new loan back serves = subst (Serves rack) (sym back) (serv
 
 module _ (old new : Volume) (mid : Blocks) (file : FileBytes) (taken : Option Lent) (is_taken : taken ≡ file.loan) (back : mid ≡ base old.store taken)
     (before now : Seen) where
+  -- giving back the loan of the piece before leaves the layout as it was
   pub layout_is : mid.layout ≡ old.store.layout
   layout_is = ap (λ (s : Blocks). s.layout) back ∙ base_layout old.store taken
 
+  -- what the calls of a step tell of it
   abbrev Told : Progress → SumsAhead → Layout → Result (Option Shown) TreeFault → Type 0
   Told p' ahead l r = TellsAll l before now (λ Bs. NextWithSums (kind_in old.sup) file.source (unread_by l before now) Bs file.progress p' new.store
       file.ahead ahead r)
@@ -101,11 +104,13 @@ module _ (old new : Volume) (mid : Blocks) (file : FileBytes) (taken : Option Le
         (subst (λ l. Told p' ahead l step) layout_is told);
   }
 
+  -- after a step that found nothing more to give
   pub streamed_none : (ahead : SumsAhead) (p' : Progress) (loan : Option Lent) → loan ≡ None → new.sup ≡ old.sup → SameLoans mid new.store
       → Serves now new.store → IsUnderway file.source p' → Told p' ahead mid.layout (Ok None)
       → Streamed old new file (file_at file p' ahead loan) before now (Ok None)
   streamed_none ahead p' loan none = ended (file_at file p' ahead loan) p' ahead (Ok None) (Ok None) (λ Is Bs h seen on. (h on.1).0 seen on.0) refl refl none
 
+  -- after a step that came to a fault
   pub streamed_err : (ahead later : SumsAhead) (p' : Progress) (loan : Option Lent) (fault : TreeFault) → loan ≡ None → new.sup ≡ old.sup
       → SameLoans mid new.store → Serves now new.store → IsUnderway file.source p' → Told p' ahead mid.layout (Err fault)
       → Streamed old new file (file_at file p' later loan) before now (Err fault)
@@ -119,15 +124,19 @@ nearer file p' given on = omega (arith, on.further, on.underway.within)
 
 -- what is known of a step, by its piece
 module _ (old new : Blocks) (given : Shown) (o : Option Shown) (is : o ≡ Some given) where
+  -- what the step lends is what it shows
   lent_is : LendsNext old new (Ok o) → LendsShown old new given
   lent_is h = subst (λ x. LendsNext old new (Ok x)) is h
 
+  -- where zeros are given, no loan changed
   pub gap_lent : (count : ℕ) → given ≡ shown.Gap count → LendsNext old new (Ok o) → SameLoans old new
   gap_lent count e h = subst (LendsShown old new) e (lent_is h)
 
+  -- where bytes are given, their loan is new and live
   pub span_lent : (loan : Lent) (place : Span) → given ≡ shown.Bytes loan place → LendsNext old new (Ok o) → IsSpanLent old new loan place
   span_lent loan place e h = subst (LendsShown old new) e (lent_is h)
 
+  -- where a piece is given, the step went on
   pub steps_on : (source : Source) (p p' : Progress) → NextStepsOn source p p' (Ok o) → StepsOn source p p' given
   steps_on source p p' h = subst (λ x. NextStepsOn source p p' (Ok x)) is h
 
@@ -135,16 +144,20 @@ module _ (old new : Blocks) (given : Shown) (o : Option Shown) (is : o ≡ Some 
 pub none_back : (mid new : Blocks) (loan : Option Lent) → loan ≡ None → SameLoans mid new → SameLoans mid (base new loan)
 none_back mid new loan e h = subst (λ l. SameLoans mid (base new l)) (sym e) h
 
+-- where no loan is kept, none has to be live
 pub none_live : (new : Blocks) (loan : Option Lent) → loan ≡ None → IfSome loan (IsLiveIn new)
 none_live new loan e = subst (λ l. IfSome l (IsLiveIn new)) (sym e) tt
 
+-- where the loan that is kept is the piece's, the other loans are as before
 pub some_back : (mid new : Blocks) (place : Option Lent) (loan : Lent) → place ≡ Some loan → SameLoans mid (base new (Some loan))
     → SameLoans mid (base new place)
 some_back mid new place loan e h = subst (λ l. SameLoans mid (base new l)) (sym e) h
 
+-- where the loan that is kept is the piece's, it is live
 pub some_live : (new : Blocks) (place : Option Lent) (loan : Lent) → place ≡ Some loan → IsLiveIn new loan → IfSome place (IsLiveIn new)
 some_live new place loan e h = subst (λ l. IfSome l (IsLiveIn new)) (sym e) h
 
+-- a piece of the bytes behind a loan is the one that is shown of that loan
 pub span_shown : (store : Blocks) (loan held : Lent) (place : Span) (bytes : List ℕ) (piece : Piece) → held ≡ loan → block_of store held ≡ Some bytes
     → piece ≡ span_piece bytes place → shown_piece store (shown.Bytes loan place) ≡ piece
 span_shown store loan held place bytes piece e is p =

@@ -16,7 +16,7 @@ use Rattle.btr_walk.specs.Reach.{SameUpTo}
 use Rattle.btr_walk.specs.Reading.{Map, UnreadBlock, answer_of}
 use Rattle.btr_walk.specs.declared.fault.TreeFault.{TreeFault}
 use Rattle.btr_walk.specs.Showing.{item_of}
-use Rattle.btr_walk.specs.Spot.{is_below}
+use Rattle.btr_walk.specs.BlockPointer.{is_below}
 use Rattle.btr_walk.specs.declared.found.Reach.{Reach}
 use Rattle.btr_walk.specs.declared.place.RootPlace.{RootPlace}
 use Rattle.btr_files.specs.declared.sums_ahead.SumsAhead.{SumsAhead}

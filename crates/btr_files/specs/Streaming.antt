@@ -49,16 +49,16 @@ IsPiece (lending.Gap count) = 0 < count
 IsPiece (lending.Bytes bytes verified crc) = (0 < length bytes.now) × IfSome crc (λ c. c ≡ crc32c bytes.now)
 
 -- how far a file has been given, and where the extent that was met last ends
-pub record Given : Type 0 where
+pub record GivenUpTo : Type 0 where
   pub at : ℕ
   pub end : ℕ
 
 -- how far a file has been given
-abbrev pub given : ℕ → ℕ → Given
+abbrev pub given : ℕ → ℕ → GivenUpTo
 given at end = record { at = at; end = end }
 
 -- on behind an extent, or the end
-abbrev pub on_behind : ℕ → Result ℕ ℕ → Result Given ℕ
+abbrev pub on_behind : ℕ → Result ℕ ℕ → Result GivenUpTo ℕ
 on_behind end (Ok at) = Ok (given at end)
 on_behind end (Err at) = Err at
 
@@ -69,23 +69,23 @@ inline_of (Some item) = inline_data item.body
 
 module _ (kind : SumKind) (source : Source) where
   -- an extent behind the one before, by its order and its pieces
-  abbrev pub extent_pieces : Given → TreeItem → FileExtent → Program Piece (Result Given ℕ)
+  abbrev pub extent_pieces : GivenUpTo → TreeItem → FileExtent → Program Piece (Result GivenUpTo ℕ)
   extent_pieces g item fields =
       if nat_le g.end item.key.offset
       then bind (piece kind source.sums source.nosum source.size g.at (extent item fields)) (λ r. Return (on_behind (end_of item.key.offset fields) r))
       else Stop (Malformed item.leaf)
 
   -- an item of a file's extents, by its form and as an extent
-  abbrev pub item_pieces : Given → TreeItem → Program Piece (Result Given ℕ)
+  abbrev pub item_pieces : GivenUpTo → TreeItem → Program Piece (Result GivenUpTo ℕ)
   item_pieces g item = formed item (file_extent_of item.key.offset item.body) (extent_pieces g item)
 
   -- behind the bytes of an extent that ends at a position
-  abbrev pub behind_bytes : ℕ → Program Piece (Result Given ℕ)
+  abbrev pub behind_bytes : ℕ → Program Piece (Result GivenUpTo ℕ)
   behind_bytes end = Return (on_behind end (on_at source.size end))
 
   -- what is still to come of the extent that was met last, whose bytes these are if it is
   -- inline, and where the file has been given then
-  abbrev pub todo_prog : ℕ → ℕ → List ℕ → Todo → Program Piece (Result Given ℕ)
+  abbrev pub todo_prog : ℕ → ℕ → List ℕ → Todo → Program Piece (Result GivenUpTo ℕ)
   todo_prog at end inline Next = Return (Ok (given at end))
   todo_prog at end inline (Inline part) =
       gap (part.start - at) (Emit (Bytes (take (source.size - part.start) inline) true) (behind_bytes end))
@@ -104,20 +104,20 @@ module _ (kind : SumKind) (source : Source) where
     EndsAt at q = GoesTo Bs (zeros_to_end at) q
 
     -- a run of the pieces of the items of a run, and of the zeros behind them
-    abbrev pub Treats : Given → Run Want Fault TreeItem (Unit {0}) → Run Want Fault Piece (Unit {0}) → Type 0
+    abbrev pub Treats : GivenUpTo → Run Want Fault TreeItem (Unit {0}) → Run Want Fault Piece (Unit {0}) → Type 0
     Treats g items q =
         (r : Run Want Fault Piece ℕ)
         × ThreadsTo (λ g' item. GoesTo Bs (item_pieces g' item)) (λ g' u. g'.at) g items.marks items.ending r
         × AfterTo r.marks r.ending EndsAt q
 
     -- a run of what is left of a file that has been given up to a position, or has no extent more before its size
-    abbrev pub Behind : Run Want Fault TreeItem (Unit {0}) → Result Given ℕ → Run Want Fault Piece (Unit {0}) → Type 0
+    abbrev pub Behind : Run Want Fault TreeItem (Unit {0}) → Result GivenUpTo ℕ → Run Want Fault Piece (Unit {0}) → Type 0
     Behind items (Ok g) = Treats g items
     Behind items (Err at) = EndsAt at
 
     -- a run of a program, and then one of the pieces of the items behind it
-    abbrev pub Then : Program Piece (Result Given ℕ) → Run Want Fault TreeItem (Unit {0}) → Run Want Fault Piece (Unit {0}) → Type 0
-    Then p items q = (r : Run Want Fault Piece (Result Given ℕ)) × GoesTo Bs p r × AfterTo r.marks r.ending (Behind items) q
+    abbrev pub Then : Program Piece (Result GivenUpTo ℕ) → Run Want Fault TreeItem (Unit {0}) → Run Want Fault Piece (Unit {0}) → Type 0
+    Then p items q = (r : Run Want Fault Piece (Result GivenUpTo ℕ)) × GoesTo Bs p r × AfterTo r.marks r.ending (Behind items) q
 
     -- the runs of what is left of a file, by how far it has been given, where the blocks of its extents come to what B
     -- says, and its sectors each to what any of the maps says
@@ -181,13 +181,13 @@ abbrev pub without_file : Blocks → FileBytes → Blocks
 without_file store file = base store file.loan
 
 -- the loan of a file is live
-abbrev pub IsHeld : Blocks → FileBytes → Type 0
-IsHeld store file = IfSome file.loan (IsLiveIn store)
+abbrev pub IsLoanLive : Blocks → FileBytes → Type 0
+IsLoanLive store file = IfSome file.loan (IsLiveIn store)
 
 -- a rack and a store can go on with a file
 pub record IsReading (rack : Seen) (store : Blocks) (file : FileBytes) : Type 0 where
   pub serves : Serves rack store
-  pub held : IsHeld store file
+  pub held : IsLoanLive store file
   pub underway : IsUnderway file.source file.progress
 
 -- some wants, and then the piece; what is left comes behind

@@ -52,7 +52,7 @@ fn read_row<R: Rack>(
     ensures lo { scan.new.lo ≡ scan.old.lo }
     ensures hi { scan.new.hi ≡ scan.old.hi }
     ensures name { KeepsName name.old name.new result }
-    ensures nears { RowRankFalls scan.old scan.new result }
+    ensures rank_falls { RowRankFalls scan.old scan.new result }
     ensures cause { HasCause store.old.layout (R.seen rack.old) (R.seen rack.new) result }
     ensures content { TellsRow store.old store.new (R.seen rack.old) (R.seen rack.new)
         scan.old scan.new name.new result }
@@ -103,7 +103,7 @@ impl Dir {
         ensures dir { IsDir self.new }
         ensures name { KeepsName name.old name.new result }
         ensures place { StaysIn self.old self.new result }
-        ensures nears { DirRankFalls self.old self.new result }
+        ensures rank_falls { DirRankFalls self.old self.new result }
         ensures cause { HasCause vol.old.store.layout (R.seen rack.old) (R.seen rack.new) result }
         ensures content { TellsEntry vol.old (R.seen rack.old) (R.seen rack.new) self.old self.new name.new result }
     {

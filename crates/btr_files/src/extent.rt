@@ -106,7 +106,7 @@ fn next_extent<R: Rack>(
     ensures lo { scan.new.lo ≡ scan.old.lo }
     ensures hi { scan.new.hi ≡ scan.old.hi }
     ensures kept { KeepsItem result scan.new.leaf }
-    ensures nears { AheadRankFalls scan.old scan.new result }
+    ensures rank_falls { AheadRankFalls scan.old scan.new result }
     ensures fits { FitsAhead source.now.size end result }
     ensures cause { HasCause store.old.layout (R.seen rack.old) (R.seen rack.new) result }
     ensures content { TellsExtent source.now store.old store.new (R.seen rack.old) (R.seen rack.new)

@@ -6,7 +6,7 @@ ghost use Rattle.btr_read.specs.Serves.{Serves};
 ghost use Rattle.btr_read.specs.Store.{Blocks, SameLoans};
 ghost use Rattle.btr_walk.specs.Reading.{Map};
 ghost use Rattle.btr_files.specs.Content.{content};
-ghost use Rattle.btr_files.specs.Streaming.{BeginsFile, IsFileOn, IsHeld, IsReading, without_file};
+ghost use Rattle.btr_files.specs.Streaming.{BeginsFile, IsFileOn, IsLoanLive, IsReading, without_file};
 
 use crate::lookup::{give_back, key_of};
 use crate::progress::{Progress, Source, Todo};
@@ -60,7 +60,7 @@ impl FileBytes {
 
     /// Gives the loan back, if one is kept. No file is let go without it.
     pub fn finish(self, vol: &mut Volume)
-        requires { IsHeld vol.old.store self }
+        requires { IsLoanLive vol.old.store self }
         ensures sup { vol.new.sup ≡ vol.old.sup }
         ensures back { SameLoans (without_file vol.old.store self) vol.new.store }
         ensures serves { (rack : Seen) → Serves rack vol.old.store → Serves rack vol.new.store }

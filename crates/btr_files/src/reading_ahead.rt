@@ -1,7 +1,7 @@
 // Checksums that are read ahead.
 ghost use Rattle.std.specs.Prelude.{◌≡◌, ℕ, ◌+◌, ◌-◌, ◌*◌, ◌/◌, ◌%◌, ◌<◌, ◌≤◌, length, take, true};
 ghost use Rattle.btr_base.specs.Sum.{sum_size};
-ghost use Rattle.btr_walk.specs.Spot.{is_below};
+ghost use Rattle.btr_walk.specs.BlockPointer.{is_below};
 ghost use Rattle.btr_files.specs.Aheads.{sum_key, IsFrom, IsReadAhead};
 
 use crate::lookup::key_of;

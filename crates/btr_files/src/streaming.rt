@@ -274,7 +274,7 @@ pub fn next_piece<'e, R: Rack>(
     ensures* after { sem 𝓛 (StreamEnds vol.entry file.old file.new (R.seen rack.old) (R.seen rack.new) result) }
     ensures reads { OnlyReads (R.seen rack.old) (R.seen rack.new) }
     ensures same { SameFile file.old file.new }
-    ensures nears { PieceRankFalls file.old file.new result }
+    ensures rank_falls { PieceRankFalls file.old file.new result }
     ensures some { IfOk result (λ found. IfSome found IsPiece) }
     ensures cause { HasCause vol.old.store.layout (R.seen rack.old) (R.seen rack.new) result }
 {

@@ -11,7 +11,7 @@ use Rattle.btr_findings.specs.declared.finding.Finding.{Finding}
 use Rattle.btr_findings.specs.Findings.{Adds, HasJust, has, is_one_of, is_same, FoundSet}
 
 -- what was added to nothing is all there is
-or_none : (a : Bool) → (a || false) ≡ a
+pub or_none : (a : Bool) → (a || false) ≡ a
 or_none true = refl
 or_none false = refl
 
@@ -49,6 +49,7 @@ pub adds_just : (xs : List Finding) (a b : FoundSet) → ((one : Finding) → ha
 adds_just xs a b empty h one = h one ∙ ap (λ r. is_one_of xs one || r) (empty one) ∙ or_none (is_one_of xs one)
 
 module _ {X : Type 0} (rule : X → Option Finding) (xs : List X) where
+  -- what a rule found of one thing, as a list
   one_rule : (o : Option Finding) → cons_option o [] ≡ option_to_list o
   one_rule None = refl
   one_rule (Some finding) = refl

@@ -18,6 +18,7 @@ kinds =
 abbrev kind_at : ℕ → Kind
 kind_at number = get_or kinds (number - 1) Lost
 
+-- a kind is the one that its number stands for
 kind_is : (kind : Kind) → kind_at (number_of kind) ≡ kind
 kind_is Lost = refl
 kind_is Malformed = refl

@@ -6,16 +6,13 @@ use Rattle.std.specs.Option.{option_to_list}
 use Rattle.std.specs.List.{list_any, cons_option}
 use Rattle.btr_findings.specs.Findings.{is_row, is_shown, has, is_same, is_one_of, Adds, FoundSet, PutsRows}
 use Rattle.btr_findings.specs.declared.finding.Finding.{Finding}
+use Rattle.btr_findings.proofs.Adding.{or_none}
 
-or_turns : (a b c : Bool) → (a || (b || c)) ≡ ((b || a) || c)
+pub or_turns : (a b c : Bool) → (a || (b || c)) ≡ ((b || a) || c)
 or_turns true true c = refl
 or_turns true false c = refl
 or_turns false true c = refl
 or_turns false false c = refl
-
-or_none : (a : Bool) → (a || false) ≡ a
-or_none true = refl
-or_none false = refl
 
 -- what was found, if anything was
 one_shown : (o : Option Finding) (one : Finding) → is_one_of (option_to_list o) one ≡ is_shown one o
@@ -39,6 +36,7 @@ module _ {X : Type 0} (rule : X → Option Finding) where
   rows-any one [] = refl
   rows-any one (x ∷ xs) = by (rule x) (rows-any one xs)
     where
+      -- one thing more, by what the rule finds of it
       by : (o : Option Finding) → is_one_of (filter_map rule xs) one ≡ list_any (is_row rule one) xs
           → is_one_of (cons_option o (filter_map rule xs)) one ≡ (is_shown one o || list_any (is_row rule one) xs)
       by None rest = rest

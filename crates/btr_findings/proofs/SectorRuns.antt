@@ -19,7 +19,8 @@ use Rattle.btr_findings.specs.Sectors.{IsRunAt, sector_finding}
 abbrev pub lines : SectorRule → ℕ → ℕ → List Finding
 lines rule first count = map (λ i. sector_finding rule (i * 4096)) (range_with_len first count)
 
-range_join : (first a b : ℕ) → range_with_len first (a + b) ≡ range_with_len first a ++ range_with_len (first + a) b
+-- numbers one after another, in two parts
+pub range_join : (first a b : ℕ) → range_with_len first (a + b) ≡ range_with_len first a ++ range_with_len (first + a) b
 range_join first zero b =
     let none : zero + b ≡ b = omega arith in
     let here : first ≡ first + zero = omega arith in
@@ -47,6 +48,7 @@ all_lines P rule first (suc count) each =
 abbrev pub is_line : SectorRule → ℕ → ℕ → Finding → Bool
 is_line rule first count one = is_one_of (lines rule first count) one
 
+-- a finding on the sectors of two parts, one behind the other, is on those of one of them
 pub is_line_join : (rule : SectorRule) (first a b : ℕ) (one : Finding) → is_line rule first (a + b) one
     ≡ (is_line rule first a one || is_line rule (first + a) b one)
 is_line_join rule first a b one =
@@ -62,6 +64,7 @@ middle false false false = refl
 pub is_line_none : (rule : SectorRule) (first count : ℕ) (one : Finding) → count ≡ 0 → is_line rule first count one ≡ false
 is_line_none rule first count one e = ap (λ n. is_line rule first n one) e
 
+-- the sectors of a part that ends within the whole are among those of the whole
 is_line_inside : (rule : SectorRule) (first count start part : ℕ) (one : Finding) → first ≤ start → start + part ≤ first + count
     → is_line rule first count one ≡ (is_line rule first count one || is_line rule start part one)
 is_line_inside rule first count start part one from to =
@@ -78,7 +81,7 @@ is_line_inside rule first count start part one from to =
     ∙ middle (is_line rule first front one) (is_line rule start part one) (is_line rule (start + part) back one)
     ∙ ap (λ b. b || is_line rule start part one) (sym whole)
 
-or_none : (a : Bool) → a ≡ (a || false)
+pub or_none : (a : Bool) → a ≡ (a || false)
 or_none true = refl
 or_none false = refl
 
@@ -88,12 +91,14 @@ pub is_line_part : (rule : SectorRule) (first count start part : ℕ) (one : Fin
 is_line_part rule first count start zero one from few = or_none (is_line rule first count one)
 is_line_part rule first count start (suc part) one from few = is_line_inside rule first count start (suc part) one from (omega (arith, few))
 
+-- where the trees and the inodes are tested as the same, they are
 same_numbers : (tree inode tree' inode' : ℕ) → (eqb tree tree' && eqb inode inode') ≡ true → (tree ≡ tree') × (inode ≡ inode')
 same_numbers tree inode tree' inode' e =
     let first : tree ≡ tree' = grind (arith, nat_tests) in
     let second : inode ≡ inode' = grind (arith, nat_tests) in
     (first, second)
 
+-- rules that the test says are one are the same
 pub same_rule : (a b : SectorRule) → is_rule a b ≡ true → a ≡ b
 same_rule (Missing tree inode) (Missing tree' inode') e = let both = same_numbers tree inode tree' inode' e in λ i. Missing (both.0 i) (both.1 i)
 same_rule Overlap Overlap e = refl
@@ -116,6 +121,7 @@ same_rule Lost Stray e = cc
 abbrev pub rule_cmp : SectorRule → SectorRule → Ordering
 rule_cmp a b = finding_cmp (sector_finding a 0) (sector_finding b 0)
 
+-- three orders one after another, put together otherwise
 by_third : (p q r : Ordering) → ordering_then p (ordering_then q (ordering_then r Equal)) ≡ ordering_then (ordering_then p (ordering_then q Equal)) r
 by_third Less q r = refl
 by_third Greater q r = refl
@@ -125,6 +131,7 @@ by_third Equal Equal Less = refl
 by_third Equal Equal Equal = refl
 by_third Equal Equal Greater = refl
 
+-- an order behind which nothing is compared says what it says
 then_none : (r : Ordering) → ordering_then r Equal ≡ r
 then_none Less = refl
 then_none Equal = refl
@@ -149,6 +156,7 @@ lines_cmp Lost (Missing tree inode) x y = refl
 lines_cmp Lost Overlap x y = refl
 lines_cmp Lost Stray x y = refl
 
+-- two orders one after another say equal where both do
 both_tied : (p q : Ordering) → is_eq (ordering_then p (ordering_then q Equal)) ≡ (is_eq p && is_eq q)
 both_tied Less q = refl
 both_tied Greater q = refl
@@ -156,9 +164,11 @@ both_tied Equal Less = refl
 both_tied Equal Equal = refl
 both_tied Equal Greater = refl
 
-tied_number : (x y : ℕ) → is_eq (nat_cmp x y) ≡ eqb x y
+-- numbers compare as equal where they are the same
+pub tied_number : (x y : ℕ) → is_eq (nat_cmp x y) ≡ eqb x y
 tied_number x y = grind (arith, nat_tests)
 
+-- rules compare as equal where they are one
 pub rule_tied : (a b : SectorRule) → is_eq (rule_cmp a b) ≡ is_rule a b
 rule_tied (Missing tree inode) (Missing tree' inode') =
     both_tied (nat_cmp tree tree') (nat_cmp inode inode') ∙ ap (λ b. b && is_eq (nat_cmp inode inode')) (tied_number tree tree')
@@ -183,11 +193,13 @@ rule_tied Lost Stray = refl
 never_below : (n : ℕ) → is_lt (nat_cmp n 0) ≡ false
 never_below n = grind (arith, nat_tests)
 
+-- where neither of two orders says less, both one after another don't
 first_of_two : (p q : Ordering) → is_lt p ≡ false → is_lt q ≡ false → is_lt (ordering_then p q) ≡ false
 first_of_two Less q a b = a
 first_of_two Equal q a b = b
 first_of_two Greater q a b = refl
 
+-- no finding on a sector comes before the one that no sector at all would have
 pub none_before : (rule : SectorRule) (first : ℕ) → is_lt (finding_cmp (sector_finding rule first) (sector_finding (Missing 0 0) 0)) ≡ false
 none_before (Missing tree inode) first =
     first_of_two (nat_cmp tree 0) _ (never_below tree) (first_of_two (nat_cmp inode 0) _ (never_below inode)
@@ -196,10 +208,12 @@ none_before Overlap first = refl
 none_before Stray first = refl
 none_before Lost first = refl
 
+-- one function after another on a list, or both at once
 map_both : (f : ℕ → ℕ) (g : ℕ → Finding) (list : List ℕ) → map g (map f list) ≡ map (λ i. g (f i)) list
 map_both f g [] = refl
 map_both f g (i ∷ list) = ap (λ l. g (f i) ∷ l) (map_both f g list)
 
+-- functions that are the same from two places on make the same lists of the numbers there
 same_map : (f g : ℕ → Finding) (a b count : ℕ) → ((i : ℕ) → i < count → f (a + i) ≡ g (b + i)) → map f (range_with_len a count) ≡ map g (range_with_len b count)
 same_map f g a b zero same = refl
 same_map f g a b (suc count) same =

@@ -11,14 +11,12 @@ use Rattle.btr_findings.specs.Findings.{Adds, FoundSet, finding_cmp, has, is_one
 use Rattle.btr_findings.specs.Runs.{found_set}
 use Rattle.btr_findings.specs.Sectors.{run_findings, runs_findings, sector_finding, sector_findings, sectors}
 use Rattle.btr_findings.proofs.Sets.{any-insert, finding_total}
+use Rattle.btr_findings.proofs.Onces.{or_regroups}
 
+-- where a call answers, what follows of its answer holds
 pub if_ok : {A E : Type 0} (r : Result A E) (P Q : A → Type 0) → ((a : A) → P a → Q a) → IfOk r P → IfOk r Q
 if_ok (Ok a) P Q f h = f a h
 if_ok (Err e) P Q f h = h
-
-or_regroups : (a b c : Bool) → ((a || b) || c) ≡ (a || (b || c))
-or_regroups true b c = refl
-or_regroups false b c = refl
 
 or_last : (a b c : Bool) → (a || (b || c)) ≡ (c || (a || b))
 or_last true b true = refl
@@ -55,6 +53,7 @@ run_put single old new run findings more is one =
     ∙ or_last (is_one_of single.keys one) (is_one_of (runs_findings old) one) (is_one_of findings one)
     ∙ ap (λ b. is_one_of findings one || b) (sym (list_any-append (is_same one) single.keys (runs_findings old)))
 
+-- the findings on so many sectors, and on one more
 findings_more : (rule : SectorRule) (start i : ℕ) → sector_findings rule start (i + 1) ≡ sector_findings rule start i
     ++ sector_finding rule (shown_sum (start + i * 4096)) ∷ []
 findings_more rule start i =

@@ -20,6 +20,7 @@ use Rattle.btr_findings.specs.Findings.{TakesFirst, finding_cmp, in_order, is_on
 use Rattle.btr_findings.specs.Runs.{AreListed, finding_of, no_run, runs_left, sector_at, step_by, step_of}
 use Rattle.btr_findings.specs.Sectors.{run_findings, runs_findings, sector_finding}
 use Rattle.btr_findings.proofs.Sets.{all-weaker, finding_exact, finding_total, first_in_order, same_findings}
+use Rattle.btr_findings.proofs.Onces.{all_append}
 
 more_is : (n : ℕ) → suc n + 1 ≡ suc (n + 1)
 more_is n = omega arith
@@ -33,18 +34,17 @@ StartsWith (Some first) list rest = list ≡ first ∷ rest
 abbrev Before : Finding → List Finding → Type 0
 Before first list = AllByRecursion (λ y. finding_cmp first y ≡ Less) list
 
-all_append : (P : Finding → Type 0) (xs ys : List Finding) → AllByRecursion P xs → AllByRecursion P ys → AllByRecursion P (xs ++ ys)
-all_append P [] ys first second = second
-all_append P (x ∷ xs) ys first second = (first.0, all_append P xs ys first.1 second)
-
+-- the first of an ascending list comes before all the others
 sorted_head : (first : Finding) (list rest : List Finding) → list ≡ first ∷ rest → IsStrictlySortedBy finding_cmp list → Before first rest
 unfolding IsStrictlySortedBy
 sorted_head first list rest is sorted = (subst (IsStrictlySortedBy finding_cmp) is sorted).0
 
+-- the others of an ascending list ascend
 sorted_rest : (first : Finding) (list rest : List Finding) → list ≡ first ∷ rest → IsStrictlySortedBy finding_cmp list → IsStrictlySortedBy finding_cmp rest
 unfolding IsStrictlySortedBy
 sorted_rest first list rest is sorted = (subst (IsStrictlySortedBy finding_cmp) is sorted).1
 
+-- what comes before the first of an ascending list comes before all of it
 before_all : (first second : Finding) (list rest : List Finding) → finding_cmp first second ≡ Less → list ≡ second ∷ rest
     → IsStrictlySortedBy finding_cmp list → Before first list
 before_all first second list rest below is sorted =
@@ -69,15 +69,18 @@ moved xs ys one = same_findings (xs ++ one ∷ ys) (one ∷ (xs ++ ys)) (λ q.
     list_any-append (is_same q) xs (one ∷ ys) ∙ or_moves (is_one_of xs q) (is_same q one) (is_one_of ys q)
     ∙ ap (λ b. is_same q one || b) (sym (list_any-append (is_same q) xs ys)))
 
+-- a finding that stands in both lists is in their set as if it stood in one
 met_twice : (xs ys : List Finding) (one : Finding) → in_order ((one ∷ xs) ++ one ∷ ys) ≡ in_order (one ∷ (xs ++ ys))
 met_twice xs ys one = same_findings ((one ∷ xs) ++ one ∷ ys) (one ∷ (xs ++ ys)) (λ q.
     list_any-append (is_same q) (one ∷ xs) (one ∷ ys) ∙ or_meets (is_same q one) (is_one_of xs q) (is_one_of ys q)
     ∙ ap (λ b. is_same q one || b) (sym (list_any-append (is_same q) xs ys)))
 
 module _ (singles singles' lines lines' : List Finding) where
+  -- a step takes the first of the set of both lists, if there is one
   abbrev Takes : Step → Type 0
   Takes step = TakesFirst (in_order (singles ++ lines)) (in_order (cond step.single singles' singles ++ cond step.line lines' lines)) step.finding
 
+  -- where both lists have a first one, the lesser is the first of all, or the one that stands in both
   both : (single line : Finding) (order : Ordering) → finding_cmp single line ≡ order → singles ≡ single ∷ singles' → lines ≡ line ∷ lines'
       → IsStrictlySortedBy finding_cmp singles → IsStrictlySortedBy finding_cmp lines → Takes (step_by single line order)
   both single line Less below is is' up up' =
@@ -120,6 +123,7 @@ ascends first list rest false is up = up
 ascends None list rest true is up = subst (IsStrictlySortedBy finding_cmp) (is.0 ∙ sym is.1) up
 ascends (Some first) list rest true is up = sorted_rest first list rest is up
 
+-- a list of which the first was taken, or not, is no longer than it was
 pub no_longer : (first : Option Finding) (list rest : List Finding) (taken : Bool) → StartsWith first list rest → length (cond taken rest list) ≤ length list
 no_longer first list rest false is = omega arith
 no_longer None list rest true is = let none : length rest ≡ length list = ap length (is.1 ∙ sym is.0) in omega (arith, none)
@@ -145,6 +149,7 @@ starts_here run runs done below =
     ∙ ap (λ one. one ∷ runs_left (run ∷ runs) (done + 1)) (get_or-map-range_with_len (λ i. sector_finding run.rule (i * 4096)) run.first run.count
     done (run.first + done) (sector_finding run.rule 0) below refl)
 
+-- the first of the findings on runs that are left
 pub starts_line : (runs : List SectorRun) (at done : ℕ) → (at < length runs → done < (get_or runs at no_run).count)
     → StartsWith (finding_of done (slice_get runs at)) (runs_left (drop at runs) done) (runs_left (drop at runs) (done + 1))
 starts_line [] zero done unfinished = (refl, refl)
@@ -162,6 +167,7 @@ pub singles_left : (taken : Bool) (list : List Finding) (at more : ℕ) → more
 singles_left true list at more is = ap (λ n. drop (at + n) list) is
 singles_left false list at more is = ap (λ n. drop (at + n) list) is ∙ ap (λ n. drop n list) (add-zero at)
 
+-- what is left of the findings on runs where one more is done, or none
 pub lines_left : (taken : Bool) (runs : List SectorRun) (done more : ℕ) → more ≡ bool_byte taken → runs_left runs (done + more)
     ≡ cond taken (runs_left runs (done + 1)) (runs_left runs done)
 lines_left true runs done more is = ap (λ n. runs_left runs (done + n)) is
@@ -192,21 +198,27 @@ run_done runs at done d below all =
     ∙ ap (λ l. runs_left l done) (sym (drop_more runs at d below))
 
 module _ (single : List Finding) (runs : List SectorRun) (at : ℕ) (place : RunPlace) (step : Step) (more next : ℕ) where
+  -- the single findings that are left
   abbrev front : List Finding
   front = drop at single
 
+  -- the findings on sectors that are left
   abbrev lines_in : List Finding
   lines_in = runs_left (drop place.run runs) place.done
 
+  -- the run at hand, if there is one, has a sector that isn't done
   abbrev pub IsOpen : Type 0
   IsOpen = place.run < length runs → place.done < (get_or runs place.run no_run).count
 
+  -- the step is the one for the first single finding and the first on a sector
   abbrev pub IsStep : Type 0
   IsStep = step ≡ step_of (slice_get single at) (sector_at runs place)
 
+  -- the single findings that are left behind the step
   singles_is : more ≡ bool_byte step.single → drop (at + more) single ≡ cond step.single (drop (at + 1) single) front
   singles_is is = singles_left step.single single at more is
 
+  -- the findings on sectors that are left behind the step
   lines_is : next ≡ bool_byte step.line → runs_left (drop place.run runs) (place.done + next)
       ≡ cond step.line (runs_left (drop place.run runs) (place.done + 1)) lines_in
   lines_is is = lines_left step.line (drop place.run runs) place.done next is

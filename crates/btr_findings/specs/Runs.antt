@@ -20,13 +20,13 @@ abbrev pub found_set : BTreeSet Finding → List SectorRun → FoundSet
 found_set single runs = single.keys ++ runs_findings runs
 
 -- a run is kept: it has a sector, and its sectors end at 2^64 at the latest
-pub record IsKept (run : SectorRun) : Type 0 where
+pub record IsSoundRun (run : SectorRun) : Type 0 where
   pub some : 0 < run.count
   pub within : IsRunWithin run
 
 -- all runs have a sector, and end at 2^64 at the latest
 abbrev pub AreKept : List SectorRun → Type 0
-AreKept runs = All IsKept runs
+AreKept runs = All IsSoundRun runs
 
 -- two rules are one
 abbrev pub is_rule : SectorRule → SectorRule → Bool

@@ -4,7 +4,7 @@ ghost use Rattle.std.specs.BTreeSet.{insert_key};
 ghost use Rattle.std.specs.Option.{option_to_list};
 ghost use Rattle.btr_findings.specs.declared.finding.Finding.{Finding};
 ghost use Rattle.btr_findings.specs.Findings.{finding_cmp, has, is_same, unless, Adds, FoundSet, ListsSet, SetLaw};
-ghost use Rattle.btr_findings.specs.Runs.{AreKept, IsKept};
+ghost use Rattle.btr_findings.specs.Runs.{AreKept, IsSoundRun};
 ghost use Rattle.btr_findings.specs.Sectors.{run_findings, runs_findings, sector_findings, IsRunWithin};
 
 use crate::findings::Findings;
@@ -89,9 +89,9 @@ pub fn put_unless(found: &mut Found, kept: bool, finding: Finding) -> Result<(),
 
 // A run and the one behind it as one, where it goes on.
 fn both(run: &SectorRun, more: &SectorRun) -> Option<SectorRun>
-    requires run { IsKept run.now }
-    requires more { IsKept more.now }
-    ensures kept { IfSome result IsKept }
+    requires run { IsSoundRun run.now }
+    requires more { IsSoundRun more.now }
+    ensures kept { IfSome result IsSoundRun }
     ensures findings { IfSome result (λ both. run_findings both ≡ run_findings run.now ++ run_findings more.now) }
 {
     if !run.rule.is(more.rule) || run.first + run.count != more.first {
@@ -107,7 +107,7 @@ fn both(run: &SectorRun, more: &SectorRun) -> Option<SectorRun>
 // Puts a run behind others, as it is.
 fn push_kept(runs: &mut Vec<SectorRun>, run: SectorRun) -> Result<(), Memory>
     requires runs { AreKept runs.old.items }
-    requires run { IsKept run }
+    requires run { IsSoundRun run }
     ensures kept { AreKept runs.new.items }
     ensures items { OnOk result (runs.new.items ≡ runs.old.items ++ run ∷ []) }
 {
@@ -120,7 +120,7 @@ fn push_kept(runs: &mut Vec<SectorRun>, run: SectorRun) -> Result<(), Memory>
 // Puts a run behind others, and makes one of it and the last, where that goes on.
 fn push_run(runs: &mut Vec<SectorRun>, run: SectorRun) -> Result<(), Memory>
     requires runs { AreKept runs.old.items }
-    requires run { IsKept run }
+    requires run { IsSoundRun run }
     ensures kept { AreKept runs.new.items }
     ensures findings { OnOk result (runs_findings runs.new.items ≡ runs_findings runs.old.items ++ run_findings run) }
 {

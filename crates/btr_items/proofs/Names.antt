@@ -21,12 +21,15 @@ named last true end size fields before =
       | false ↦ λ fits. tt
     ] refl
 
+-- the name of an entry that was read lies in the body
 pub entry_named : (at : ℕ) (body : List ℕ) → IfOk (entry_at at body) (λ (part : Entry). HasName body part.name_at part.name_len)
 entry_named at body = named (λ (part : Entry). part.name_at + part.name_len) _ (at + 30 + number_at 2 (at + 27) body + number_at 2 (at + 25) body)
     (length body) _ (omega arith)
 
+-- the name of an INODE_REF's part that was read lies in the body
 pub inode_ref_named : (at : ℕ) (body : List ℕ) → IfOk (inode_ref_at at body) (λ (part : InodeRef). HasName body part.name_at part.name_len)
 inode_ref_named at body = named (λ (part : InodeRef). part.name_at + part.name_len) _ (at + 10 + number_at 2 (at + 8) body) (length body) _ (omega arith)
 
+-- the name of an INODE_EXTREF's part that was read lies in the body
 pub ext_ref_named : (at : ℕ) (body : List ℕ) → IfOk (ext_ref_at at body) (λ (part : ExtRef). HasName body part.name_at part.name_len)
 ext_ref_named at body = named (λ (part : ExtRef). part.name_at + part.name_len) _ (at + 18 + number_at 2 (at + 16) body) (length body) _ (omega arith)

@@ -7,9 +7,11 @@ use Rattle.std.proofs.lemmas.Bool.Decides.{nat_tests}
 use Rattle.btr_items.specs.Parts.{followed_by, place_behind, parts_within, parts_from}
 use Rattle.btr_items.specs.declared.fault.ItemFault.{ItemFault}
 
+-- a number is not one above it
 differs : (x y : ℕ) → x < y → eqb x y ≡ false
 differs x y lt = grind (arith, nat_tests)
 
+-- behind what was read the parts may be any that are the same for it
 followed : {T : Type 0} (read : Result T ItemFault) (f g : T → List (Result T ItemFault)) → ((part : T) → read ≡ Ok part → f part ≡ g part)
     → followed_by read f ≡ followed_by read g
 followed (Ok part) f g same = ap (λ (l : List (Result _ ItemFault)). Ok part ∷ l) (same part refl)
@@ -35,6 +37,7 @@ module _ {T : Type 0} (part_at : ℕ → List ℕ → Result T ItemFault) (end_o
       (followed (part_at at body) (λ part. parts_within part_at end_of m (end_of part) body) (λ part. parts_within part_at end_of n (end_of part) body)
       (λ part is. let ends = ends_within at body part is in enough m n (end_of part) body ends.1 (omega (arith, ends.0)) (omega (arith, ends.0))))
 
+  -- with enough parts to ask for, those behind what was read are all that are there
   rest : (m at : ℕ) (body : List ℕ) (read : Result T ItemFault) → part_at at body ≡ read → length body ≤ suc m + at
       → followed_by read (λ part. parts_within part_at end_of m (end_of part) body)
       ≡ read ∷ parts_from part_at end_of (place_behind end_of (length body) read) body
@@ -44,6 +47,7 @@ module _ {T : Type 0} (part_at : ℕ → List ℕ → Result T ItemFault) (end_o
   rest m at body (Err fault) is many = ap (λ (l : List (Result T ItemFault)). Err fault ∷ l)
       (sym (none_at_end part_at end_of (length body) (length body) body refl))
 
+  -- before the body's end the parts are the one that is read and those behind it
   more_of : (most at : ℕ) (body : List ℕ) → at < length body → length body ≤ most + at
       → parts_within part_at end_of most at body ≡ part_at at body ∷ parts_from part_at end_of (place_behind end_of (length body) (part_at at body)) body
   unfolding parts_within
@@ -63,6 +67,7 @@ module _ {T : Type 0} (part_at : ℕ → List ℕ → Result T ItemFault) (end_o
   behind_within at body (Ok part) is = (ends_within at body part is).1
   behind_within at body (Err fault) is = omega arith
 
+-- what holds of the part that was read and of all behind it holds of each
 all_followed : {T : Type 0} (P : Result T ItemFault → Type 0) (done : Bool) (read : Result T ItemFault) (behind : T → List (Result T ItemFault))
     → P read → ((part : T) → All P (behind part)) → All P (cond done [] (followed_by read behind))
 all_followed P true read behind holds others = All-nil P

@@ -6,12 +6,13 @@ use Rattle.btr_rack.specs.Memory.{MemoryRack, named, slots_of, shelf_of, empty_r
 use Rattle.btr_make.specs.Shelf.{Standing, standing, IsShelved}
 
 -- where no slot is open, each image is on the shelf
-none_open : (n : ℕ) (xs : List MemoryImage) → map (λ (image : MemoryImage). image.slot) (take n xs) ≡ [] → (take n xs ≡ []) × (drop n xs ≡ xs)
+pub none_open : (n : ℕ) (xs : List MemoryImage) → map (λ (image : MemoryImage). image.slot) (take n xs) ≡ [] → (take n xs ≡ []) × (drop n xs ≡ xs)
 none_open zero xs e = (refl, refl)
 none_open (suc k) [] e = (refl, refl)
 none_open (suc k) (x ∷ xs) e = cc
 
-shelf_closed : (rack : MemoryRack) (name : List ℕ) → slots_of rack ≡ [] → shelf_of rack name ≡ named rack name
+-- where no slot is open, the shelf has the images of all names
+pub shelf_closed : (rack : MemoryRack) (name : List ℕ) → slots_of rack ≡ [] → shelf_of rack name ≡ named rack name
 shelf_closed rack name e =
     let h = none_open rack.opened rack.images e in
     rw (h.0, h.1) refl
@@ -24,6 +25,7 @@ shelved old new name e closed some =
     let names : is_some (named new name) ≡ is_some (named old name) = ap (λ (s : Standing). s.names name) e in
     ap is_some (shelf_closed new name closed') ∙ names ∙ sym (ap is_some (shelf_closed old name closed)) ∙ some
 
+-- a rack of a volume that can be tried stays one where all that writing leaves is as it was
 pub ready_stays : (old new : MemoryRack) → IsShelved old → standing new ≡ standing old → IsShelved new
 unfolding standing
 ready_stays old new r e =

@@ -18,10 +18,12 @@ register_more reg b rest lt small =
     let s_lt : s < 2 ^ 32 = shifted_by_lt 8 (bit_xor reg b) (xor_lt 32 reg b lt (omega arith)) in
     ap (λ r. register r rest) (register-cons reg b [] lt small ∙ register-nil s s_lt) ∙ sym (register-cons reg b rest lt small)
 
+-- before the first byte the register is at its beginning
 pub register_begins : (image : Option (List ℕ)) (begin end : ℕ) → IsRegisterAt 0xFFFFFFFF image begin end begin
 register_begins None begin end = refl
 register_begins (Some image) begin end = (inl refl, refl)
 
+-- one more byte of the image is taken into the register
 pub register_goes_on : (reg b begin end at : ℕ) (image : Option (List ℕ)) → reg < 2 ^ 32 → b < 2 ^ 8 → at < end
     → option_and_then (λ (bytes : List ℕ). slice_get bytes at) image ≡ Some b → IsRegisterAt reg image begin end at
     → IsRegisterAt (register reg (b ∷ [])) image begin end (at + 1)
@@ -34,6 +36,7 @@ register_goes_on reg b begin end at (Some image) lt small below found here =
           ∙ ap (register reg) (sym (front image at end b below within byte)) ∙ here.1,
     )
   where
+    -- a range of the image is its first byte and the range behind that
     front : (image : List ℕ) (at end b : ℕ) → at < end → at < length image → get_or image at b ≡ b → slice_range image at end
         ≡ b ∷ slice_range image (at + 1) end
     front image at end b below within byte =
@@ -43,6 +46,7 @@ register_goes_on reg b begin end at (Some image) lt small below found here =
         ∙ ap (take (suc n)) (drop-cons image at b within ∙ ap (λ x. x ∷ drop (suc at) image) byte)
         ∙ ap (λ k. b ∷ take n (drop k image)) (sym (add-one at))
 
+-- once all bytes are taken in, the register turned over is the CRC-32C of the range
 pub register_ends : (reg begin end : ℕ) (image : Option (List ℕ)) → reg < 2 ^ 32 → begin < end → IsRegisterAt reg image begin end end
     → IsCrcOf (2 ^ 32 - 1 - reg) image begin end
 register_ends reg begin end None lt more here = absurd (omega arith)
@@ -52,6 +56,7 @@ register_ends reg begin end (Some image) lt more here =
     let is : reg ≡ register 0xFFFFFFFF (slice_range image begin end) = sym (register-nil reg lt) ∙ ap (register reg) (sym empty) ∙ here.1 in
     (elim here.0 [ inl same ↦ absurd (omega arith) | inr within ↦ within ], ap (λ r. 2 ^ 32 - 1 - r) is)
 
+-- where a byte of the range is not there, the image ends before the range
 pub byte_missing : (begin end at : ℕ) (image : Option (List ℕ)) → at < end → option_and_then (λ (bytes : List ℕ). slice_get bytes at) image ≡ None
     → IfSome image (λ bytes. length bytes < end)
 byte_missing begin end at None below found = tt

@@ -20,6 +20,7 @@ pasted-none image off within =
     let none : off + 0 - off ≡ 0 = omega arith in
     ap (λ k. pasted image off (take k (drop off image))) (sym none) ∙ pasted-same image off 0 (omega arith)
 
+-- where no bytes were written, each image has the bytes that it had
 untouched_image : (name other : List ℕ) (off : ℕ) (old new : MemoryRack) → Rewrites name off [] old new → (b : Bool) → bytes_eq other name ≡ b
     → named new other ≡ named old other
 untouched_image name other off old new r true e =
@@ -30,12 +31,14 @@ untouched_image name other off old new r false e =
     let differ : other ≢ name = λ same. let t : bytes_eq other name ≡ true = (bytes_eq-Decides other name).1 same in cc in
     r.others other differ
 
+-- where no bytes were written, nothing was
 pub untouched_rewrites : (name : List ℕ) (off : ℕ) (old new : MemoryRack) → Rewrites name off [] old new → IsUntouched old new
 untouched_rewrites name off old new r = record {
   images = λ other. untouched_image name other off old new r (bytes_eq other name) refl;
   standing = standing_rewrites name off [] old new r;
 }
 
+-- a rack that is the same as one to which nothing was written has nothing written to it
 untouched_more : (old mid new : MemoryRack) → IsUntouched old mid → new ≡ mid → IsUntouched old new
 untouched_more old mid new u e = subst (IsUntouched old) (sym e) u
 
@@ -60,9 +63,11 @@ rewrites_after name off bytes old mid new u r = record {
 pub shorter : (image : Option (List ℕ)) (bytes : List ℕ) (end : ℕ) → IfSome image (λ bytes. length bytes < end) → image ≡ Some bytes → length bytes < end
 shorter image bytes end short e = let P : Option (List ℕ) → Type 0 = λ o. IfSome o (λ bytes. length bytes < end) in subst P e short
 
+-- the sum has 4 bytes
 length_sum : (crc : ℕ) → length (to_le_bytes w32 crc) ≡ 4
 length_sum crc = refl
 
+-- a poke of the sum at the block's beginning, after nothing was written, is what `seal` does
 pub seals_poke : {T : Type 0} (name image : List ℕ) (off len crc end : ℕ) (old mid new : MemoryRack) (result : Result T PokeError) → 36 ≤ len → end
     ≡ off + len → IsUntouched old mid → named mid name ≡ Some image → IsCrcOf crc (named mid name) (off + 32) end
     → Pokes name off (to_le_bytes w32 crc) mid new result → Seals name off len old new result

@@ -19,9 +19,11 @@ use Rattle.btr_rack.proofs.Patches.{patched_bytes}
 use Rattle.btr_make.specs.Spoil.{page_of, is_zeros, is_spoiled, spoiled_byte, spoiled_below, spoiled, turned_if_spoiled, with_page, Becomes, SpoilsPage, Spoils}
 use Rattle.btr_make.proofs.Standings.{standing_rewrites}
 
+-- a range that lies in the image has its length
 length-range : (image : List ℕ) (off n : ℕ) → off + n ≤ length image → length (slice_range image off (off + n)) ≡ n
 length-range image off n fits = omega (arith, length-take (off + n - off) (drop off image), length-drop off image)
 
+-- a byte of a range is the image's byte there
 get_or-range : (image : List ℕ) (off n k d : ℕ) → k < n → get_or (slice_range image off (off + n)) k d ≡ get_or image (off + k) d
 get_or-range image off n k d lt =
     let within : k < off + n - off = omega arith in
@@ -35,6 +37,7 @@ bytes_read None off page whole read = tt
 bytes_read (Some image) off page whole read = λ fits. same_lists page (slice_range image off (off + 4096))
     (whole ∙ sym (length-range image off 4096 fits)) (λ k d lt. at k d fits (omega arith))
   where
+    -- the page and its range have the same byte at each place
     at : (k d : ℕ) → off + 4096 ≤ length image → k < 4096 → get_or page k d ≡ get_or (slice_range image off (off + 4096)) k d
     at k d fits lt =
         let there : off + k < length image = omega arith in
@@ -50,6 +53,7 @@ page_there None at some = cc
 page_there (Some bytes) at some =
     (bytes, refl, elim (slice_get_cases bytes at).1 [ inl there ↦ there.1 | inr past ↦ let e : is_none (slice_get bytes at) ≡ true = ap is_none past.1 in cc ])
 
+-- bytes that are 0 at each place are all zeros
 zeros_all : (bytes : List ℕ) → ((k : ℕ) → get_or bytes k 0 ≡ 0) → is_zeros bytes ≡ true
 zeros_all [] each = refl
 zeros_all (b ∷ bytes) each = let zero_first : b ≡ 0 = each zero in rw zero_first (zeros_all bytes (λ k. each (suc k)))
@@ -60,16 +64,20 @@ unkept_byte image page k none lt =
     let at : (4096 * page + k) / 4096 ≡ page = omega arith in
     rw (at, none) refl
 
+-- a page that isn't kept, and of which the image has all, is all zeros
 unkept_page : (image : MemoryImage) (page : ℕ) → page_at image.pages page ≡ None → 4096 * page + 4096 ≤ length (bytes_in image)
     → is_zeros (page_of (bytes_in image) page) ≡ true
 unkept_page image page none fits = zeros_all (page_of (bytes_in image) page) at
   where
+    -- the image has as many bytes as its slot says
     long : length (bytes_in image) ≡ image.slot.len
     long = length-map-range_with_len (page_byte image.pages) 0 image.slot.len
 
+    -- the page has 4096 bytes
     sized : length (page_of (bytes_in image) page) ≡ 4096
     sized = length-range (bytes_in image) (4096 * page) 4096 fits
 
+    -- each byte of the page is 0
     at : (k : ℕ) → get_or (page_of (bytes_in image) page) k 0 ≡ 0
     at k = elim (cases_lt k 4096) [
       | inl lt ↦ get_or-range (bytes_in image) (4096 * page) 4096 k 0 lt
@@ -78,10 +86,12 @@ unkept_page image page none fits = zeros_all (page_of (bytes_in image) page) at
       | inr le ↦ get_or_past (page_of (bytes_in image) page) k 0 (omega (arith, sized))
     ]
 
+-- a page that the image of a name doesn't keep isn't spoiled, where the image has all of it
 pub unkept : (rack : MemoryRack) (name : List ℕ) (page : ℕ) → named_page rack name page ≡ None
     → IfSome (named rack name) (λ image. 4096 * page + 4096 ≤ length image → None ≡ turned_if_spoiled image page)
 unkept rack name page none = at (find (is_named name) rack.images) none
   where
+    -- a page that isn't kept isn't spoiled, whether there is an image or not
     at : (image : Option MemoryImage) → option_and_then (λ (i : MemoryImage). page_at i.pages page) image ≡ None
         → IfSome (option_map bytes_in image) (λ bytes. 4096 * page + 4096 ≤ length bytes → None ≡ turned_if_spoiled bytes page)
     at None none = tt
@@ -91,18 +101,23 @@ unkept rack name page none = at (find (is_named name) rack.images) none
 same_before : (q n m x y : ℕ) (s : Bool) → q < n → n ≤ m → (if nat_lt q n && s then y else x) ≡ (if nat_lt q m && s then y else x)
 same_before q n m x y s lt le = grind (arith, nat_tests)
 
+-- a page behind both bounds is spoiled by neither
 same_behind : (q n m x y : ℕ) (s : Bool) → n ≤ q → m ≤ q → (if nat_lt q n && s then y else x) ≡ (if nat_lt q m && s then y else x)
 same_behind q n m x y s past more = grind (arith, nat_tests)
 
+-- a page that is not below the bound is as it was
 as_it_was : (q n x y : ℕ) (s : Bool) → n ≤ q → (if nat_lt q n && s then y else x) ≡ x
 as_it_was q n x y s le = grind (arith, nat_tests)
 
+-- a page below the bound that is one to be spoiled is turned
 turned_at : (q n x y : ℕ) (s : Bool) → q < n → s ≡ true → (if nat_lt q n && s then y else x) ≡ y
 turned_at q n x y s lt is = grind (arith, nat_tests)
 
+-- a page that is none to be spoiled is as it was
 spared_at : (q n x y : ℕ) (s : Bool) → s ≡ false → (if nat_lt q n && s then y else x) ≡ x
 spared_at q n x y s is = grind (arith, nat_tests)
 
+-- functions that agree at each place make the same list
 made_same : (f g : ℕ → ℕ) (a n : ℕ) → ((i : ℕ) → f i ≡ g i) → map f (range_with_len a n) ≡ map g (range_with_len a n)
 made_same f g a zero same = refl
 made_same f g a (suc n) same = λ i. same a i ∷ made_same f g (a + 1) n same i
@@ -111,6 +126,7 @@ made_same f g a (suc n) same = λ i. same a i ∷ made_same f g (a + 1) n same i
 made_again : (xs : List ℕ) → map (λ i. get_or xs i 0) (range_with_len 0 (length xs)) ≡ xs
 made_again xs = same_lists _ _ (length-map-range_with_len (λ i. get_or xs i 0) 0 (length xs)) (λ k d lt. at k d lt)
   where
+    -- the list that was made has the same element at each place
     at : (k d : ℕ) → k < length (map (λ i. get_or xs i 0) (range_with_len 0 (length xs)))
         → get_or (map (λ i. get_or xs i 0) (range_with_len 0 (length xs))) k d ≡ get_or xs k d
     at k d lt =
@@ -121,9 +137,11 @@ made_again xs = same_lists _ _ (length-map-range_with_len (λ i. get_or xs i 0) 
 spared_early : (image : List ℕ) (page : ℕ) → page < 256 → is_spoiled image page ≡ false
 spared_early image page lt = grind (arith, nat_tests)
 
+-- a page that the image has not all of is spared
 spared_late : (image : List ℕ) (page : ℕ) → length image < 4096 * page + 4096 → is_spoiled image page ≡ false
 spared_late image page short = grind (arith, nat_tests)
 
+-- the spoiled image is as long as the image
 length_spoiled : (n : ℕ) (image : List ℕ) → length (spoiled_below n image) ≡ length image
 unfolding spoiled_below
 length_spoiled n image = length-map-range_with_len (spoiled_byte n image) 0 (length image)
@@ -133,6 +151,7 @@ none_spoiled : (n : ℕ) (image : List ℕ) → n ≤ 256 → spoiled_below n im
 unfolding spoiled_below
 none_spoiled n image early = made_same (spoiled_byte n image) (λ i. get_or image i 0) 0 (length image) at ∙ made_again image
   where
+    -- with no page spoiled yet, each byte is as it was
     at : (i : ℕ) → spoiled_byte n image i ≡ get_or image i 0
     at i =
         let x : ℕ = get_or image i 0 in
@@ -146,6 +165,7 @@ all_spoiled : (n m : ℕ) (image : List ℕ) → n ≤ m → length image < 4096
 unfolding spoiled_below
 all_spoiled n m image le short = made_same (spoiled_byte n image) (spoiled_byte m image) 0 (length image) at
   where
+    -- with no page left to spoil, each byte is as it is in the whole
     at : (i : ℕ) → spoiled_byte n image i ≡ spoiled_byte m image i
     at i =
         let x : ℕ = get_or image i 0 in
@@ -161,12 +181,15 @@ page_kept : (n : ℕ) (image : List ℕ) → 4096 * n + 4096 ≤ length image �
 unfolding spoiled_below
 page_kept n image fits = same_lists _ _ sized at
   where
+    -- the image keeps its length while the pages before are spoiled
     long : length (spoiled_below n image) ≡ length image
     long = length_spoiled n image
 
+    -- the page keeps its length while those before it are spoiled
     sized : length (page_of (spoiled_below n image) n) ≡ length (page_of image n)
     sized = length-range (spoiled_below n image) (4096 * n) 4096 (omega (arith, long)) ∙ sym (length-range image (4096 * n) 4096 fits)
 
+    -- the page keeps its bytes while those before it are spoiled
     at : (k d : ℕ) → k < length (page_of (spoiled_below n image) n) → get_or (page_of (spoiled_below n image) n) k d ≡ get_or (page_of image n) k d
     at k d lt =
         let below : k < 4096 = omega (arith, sized, length-range image (4096 * n) 4096 fits) in
@@ -179,6 +202,7 @@ page_kept n image fits = same_lists _ _ sized at
         ∙ get_or_default image i 0 d (omega arith)
         ∙ sym (get_or-range image (4096 * n) 4096 k d below)
 
+-- what becomes of a page is the same after those before it are spoiled
 turned_kept : (n : ℕ) (image : List ℕ) → 4096 * n + 4096 ≤ length image → turned_if_spoiled (spoiled_below n image) n ≡ turned_if_spoiled image n
 turned_kept n image fits =
     let long : length (spoiled_below n image) ≡ length image = length_spoiled n image in
@@ -189,9 +213,11 @@ turned_kept n image fits =
 patched_before : (old at i : ℕ) (piece : List ℕ) → i < at → patched old at piece i ≡ old
 patched_before old at i piece lt = grind (arith, nat_tests)
 
+-- within the piece stands the piece's byte
 patched_in : (old at i : ℕ) (piece : List ℕ) → at ≤ i → i < at + length piece → patched old at piece i ≡ get_or piece (i - at) 0
 patched_in old at i piece le lt = grind (arith, nat_tests)
 
+-- behind the piece a byte is as it was
 patched_behind : (old at i : ℕ) (piece : List ℕ) → at + length piece ≤ i → patched old at piece i ≡ old
 patched_behind old at i piece le = grind (arith, nat_tests)
 
@@ -199,10 +225,12 @@ patched_behind old at i piece le = grind (arith, nat_tests)
 turned_bytes : (n : ℕ) (image : List ℕ) → List ℕ
 turned_bytes n image = map (λ b. 255 - b) (page_of image n)
 
+-- the turned page has 4096 bytes
 length_turned : (n : ℕ) (image : List ℕ) → 4096 * n + 4096 ≤ length image → length (turned_bytes n image) ≡ 4096
 unfolding turned_bytes
 length_turned n image fits = length-map (page_of image n) (λ b. 255 - b) ∙ length-range image (4096 * n) 4096 fits
 
+-- a byte of the turned page is 255 less the image's byte there
 turned_byte : (n i : ℕ) (image : List ℕ) → 4096 * n + 4096 ≤ length image → 4096 * n ≤ i → i < 4096 * n + 4096
     → get_or (turned_bytes n image) (i - 4096 * n) 0 ≡ 255 - get_or image i 0
 unfolding turned_bytes
@@ -213,6 +241,7 @@ turned_byte n i image fits le lt =
     get_or-map (λ b. 255 - b) (page_of image n) k 0 0 (omega (arith, length-range image (4096 * n) 4096 fits))
     ∙ ap (λ b. 255 - b) (get_or-range image (4096 * n) 4096 k 0 below ∙ ap (λ j. get_or image j 0) back)
 
+-- a page that is spared leaves each byte as it is after those before it
 spared_more : (n : ℕ) (image : List ℕ) → is_spoiled image n ≡ false → (i : ℕ) → spoiled_byte n image i ≡ spoiled_byte (n + 1) image i
 spared_more n image is i =
     let x : ℕ = get_or image i 0 in
@@ -226,6 +255,7 @@ spared_more n image is i =
       ]
     ]
 
+-- a page that is turned is written over the bytes as they are after those before it
 turned_more : (n : ℕ) (image : List ℕ) → 4096 * n + 4096 ≤ length image → is_spoiled image n ≡ true → (i : ℕ) → spoiled_byte (n + 1) image i
     ≡ patched (spoiled_byte n image i) (4096 * n) (turned_bytes n image) i
 turned_more n image fits is i =
@@ -246,6 +276,7 @@ turned_more n image fits is i =
       ]
     ]
 
+-- one more page, turned or spared, makes the image of which the pages up to it are spoiled
 page_more : (n : ℕ) (image : List ℕ) → 4096 * n + 4096 ≤ length image → (b : Bool) → is_spoiled image n ≡ b
     → with_page (spoiled_below n image) n (if b then Some (map (λ b. 255 - b) (page_of image n)) else None) ≡ spoiled_below (n + 1) image
 unfolding spoiled_below turned_bytes
@@ -253,6 +284,7 @@ page_more n image fits false is = made_same (spoiled_byte n image) (spoiled_byte
 page_more n image fits true is = sym (patched_bytes (spoiled_byte n image) (spoiled_byte (n + 1) image) (length image) (4096 * n)
     (turned_bytes n image) (omega (arith, length_turned n image fits)) (turned_more n image fits is))
 
+-- after the pages before it, one more page is spoiled
 pub spoiled_more : (n : ℕ) (image : List ℕ) → 4096 * n + 4096 ≤ length image
     → with_page (spoiled_below n image) n (turned_if_spoiled (spoiled_below n image) n) ≡ spoiled_below (n + 1) image
 spoiled_more n image fits = ap (with_page (spoiled_below n image) n) (turned_kept n image fits) ∙ page_more n image fits (is_spoiled image n) refl
@@ -266,6 +298,7 @@ becomes_written name off bytes old new r = record {
   standing = standing_rewrites name off bytes old new r;
 }
 
+-- what an image becomes after it became something else is what it becomes
 pub becomes_then : (name a b : List ℕ) (old mid new : MemoryRack) → Becomes name a old mid → Becomes name b mid new → Becomes name b old new
 becomes_then name a b old mid new first second = record {
   now = second.now;
@@ -289,11 +322,13 @@ page_written name n off at page old new here last there is r =
     ap (λ o. pasted r.image o page) here ∙ ap (with_page r.image n) turned in
     (r.image, r.stood, fits, subst (λ bytes. Becomes name bytes old new) whole (becomes_written name off page old new r))
 
+-- before the first page that may be spoiled, the image is as it was
 pub spoil_begins : (name : List ℕ) (old new : MemoryRack) → Rewrites name 0 [] old new → (image : List ℕ) × (named old name ≡ Some image)
     × Becomes name (spoiled_below 256 image) old new
 spoil_begins name old new r =
     (r.image, r.stood, subst (λ bytes. Becomes name bytes old new) (sym (none_spoiled 256 r.image (omega arith))) (becomes_written name 0 [] old new r))
 
+-- one more page is spoiled, after those before it
 pub spoil_goes_on : (name : List ℕ) (n : ℕ) (old mid new : MemoryRack)
     → ((image : List ℕ) × (named old name ≡ Some image) × Becomes name (spoiled_below n image) old mid) → SpoilsPage name n mid new (Ok true)
     → (image : List ℕ) × (named old name ≡ Some image) × Becomes name (spoiled_below (n + 1) image) old new
@@ -309,6 +344,7 @@ spoil_goes_on name n old mid new so_far step =
           (subst (λ bytes. Becomes name bytes mid new) now step.3),
     )
 
+-- where a page is not all there, the whole image is spoiled
 pub spoil_ends : (name : List ℕ) (n : ℕ) (old mid new : MemoryRack) → n ≤ 2 ^ 51
     → ((image : List ℕ) × (named old name ≡ Some image) × Becomes name (spoiled_below n image) old mid) → SpoilsPage name n mid new (Ok false)
     → (image : List ℕ) × (named old name ≡ Some image) × Becomes name (spoiled image) old new
@@ -319,6 +355,7 @@ spoil_ends name n old mid new le so_far step =
     let all : spoiled_below n image ≡ spoiled image = all_spoiled n (2 ^ 51) image le (omega (arith, short, length_spoiled n image)) in
     (image, so_far.1, subst (λ rack. Becomes name (spoiled image) old rack) (sym step.1) (subst (λ bytes. Becomes name bytes old mid) all so_far.2))
 
+-- where a page can't be written, the spoiling stops at it
 pub spoil_stops : (name : List ℕ) (n : ℕ) (old mid new : MemoryRack) (e : PokeError)
     → ((image : List ℕ) × (named old name ≡ Some image) × Becomes name (spoiled_below n image) old mid) → SpoilsPage name n mid new (Err e)
     → Spoils {T = Unit {0}} name old new (Err e)

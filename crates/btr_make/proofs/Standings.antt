@@ -31,6 +31,7 @@ standing_parts old new slots failing unsynced never account names = λ i. record
   names = λ name. names name i;
 }
 
+-- writing into an image leaves what stands
 pub standing_rewrites : (name : List ℕ) (off : ℕ) (bytes : List ℕ) (old new : MemoryRack) → Rewrites name off bytes old new → standing new ≡ standing old
 standing_rewrites name off bytes old new r =
     standing_parts old new r.slots r.failing r.unsynced r.never_synced r.account

@@ -7,6 +7,7 @@ use Rattle.btr_node.specs.Block.{KeyPointer, level_of, entry_count, entry_key, e
 use Rattle.btr_node.proofs.Places.{map-map, IsSeenAs}
 use Rattle.btr_node.proofs.Tables.{ascends-order}
 
+-- a node has as many pointers as its header states
 pub length-pointers : (block : List ℕ) → length (pointers block) ≡ entry_count block
 unfolding pointers
 length-pointers block = length-map-range_with_len (pointer_at block) 0 (entry_count block)
@@ -20,6 +21,7 @@ pointer_seen block list same = record {
       ap (λ (l : List KeyPointer). get_or l i d) (sym same) ∙ get_or-map-range_with_len (pointer_at block) 0 (entry_count block) i i d inside (omega arith);
 }
 
+-- the key of a pointer is the key of its entry
 key-pointer_at : (block : List ℕ) (i : ℕ) → (pointer_at block i).key ≡ entry_key 33 block i
 unfolding pointer_at
 key-pointer_at block i = refl
@@ -29,17 +31,21 @@ pub key_seen : (block : List ℕ) (list : List KeyPointer) → pointers block �
 key_seen block list same =
     record { at = λ i d within. ap (λ (pointer : KeyPointer). pointer.key) ((pointer_seen block list same).at i d within) ∙ key-pointer_at block i }
 
+-- the level is one of an inner node, 1 to 7
 level_fits : ℕ → Bool
 level_fits level = ltb 0 level && leb level 7
 
+-- the table has a pointer at least, and lies in the block
 table_fits : List ℕ → Bool
 table_fits block = ltb 0 (entry_count block) && leb (101 + 33 * entry_count block) (length block)
 
+-- the keys of a node's pointers are those of its entries
 keys_of_pointers : (block : List ℕ) → map (λ (pointer : KeyPointer). pointer.key) (map (pointer_at block) (range_with_len 0 (entry_count block)))
     ≡ map (entry_key 33 block) (range_with_len 0 (entry_count block))
 unfolding pointer_at
 keys_of_pointers block = map-map (pointer_at block) (λ (pointer : KeyPointer). pointer.key) (range_with_len 0 (entry_count block))
 
+-- a block is a good inner node by its level, its table and the keys of its entries
 inner_is : (block : List ℕ) → is_inner block ≡ (level_fits (level_of block) &&
     (table_fits block && ascends (map (entry_key 33 block) (range_with_len 0 (entry_count block)))))
 unfolding is_inner pointers level_fits table_fits
@@ -79,6 +85,7 @@ inner_rules block n count above level some fits =
     ∙ ap (λ test. test && keys) (le-leb (101 + 33 * entry_count block) (length block) (omega arith))
     ∙ ap (λ m. ascends (map (entry_key 33 block) (range_with_len 0 m))) (sym count)
 
+-- a good inner node has a table that lies in the block, and keys that ascend
 parts_of : (block : List ℕ) → is_inner block ≡ true → ((0 < entry_count block) × (101 + 33 * entry_count block ≤ length block))
     × (ascends (map (entry_key 33 block) (range_with_len 0 (entry_count block))) ≡ true)
 unfolding table_fits
@@ -103,6 +110,7 @@ level-inner block good =
     let level = and_parts (ltb 0 (level_of block)) (leb (level_of block) 7) (and_parts (level_fits (level_of block)) _ (sym (inner_is block) ∙ good)).0 in
     (ltb-true _ _ level.0, leb-true _ _ level.1)
 
+-- the keys of a good inner node's pointers ascend
 pub ascends-pointers : (block : List ℕ) → is_inner block ≡ true → ascends (map (λ (pointer : KeyPointer). pointer.key) (pointers block)) ≡ true
 unfolding pointers
 ascends-pointers block good = ap ascends (keys_of_pointers block) ∙ (parts_of block good).1

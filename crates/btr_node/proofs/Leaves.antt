@@ -9,6 +9,7 @@ use Rattle.btr_node.proofs.Packing.{packed_too_many, packed_within}
 use Rattle.btr_node.proofs.Places.{map-map, IsSeenAs}
 use Rattle.btr_node.proofs.Tables.{ascends-order}
 
+-- a leaf has as many items as its header states
 pub length-items : (block : List ℕ) → length (items block) ≡ entry_count block
 unfolding items
 length-items block = length-map-range_with_len (item_at block) 0 (entry_count block)
@@ -22,6 +23,7 @@ item_seen block list same = record {
       ap (λ (l : List Item). get_or l i d) (sym same) ∙ get_or-map-range_with_len (item_at block) 0 (entry_count block) i i d inside (omega arith);
 }
 
+-- the key of an item is the key of its entry
 key-item_at : (block : List ℕ) (i : ℕ) → (item_at block i).key ≡ entry_key 25 block i
 unfolding item_at
 key-item_at block i = refl
@@ -35,11 +37,13 @@ rules_of : (block : List ℕ) → Bool
 rules_of block = is_packed (25 * entry_count block) (length block - 101) (map (item_at block) (range_with_len 0 (entry_count block))) && ascends
     (map (entry_key 25 block) (range_with_len 0 (entry_count block)))
 
+-- the keys of a leaf's items are those of its entries
 keys_of_items : (block : List ℕ) → map (λ (item : Item). item.key) (map (item_at block) (range_with_len 0 (entry_count block)))
     ≡ map (entry_key 25 block) (range_with_len 0 (entry_count block))
 unfolding item_at
 keys_of_items block = map-map (item_at block) (λ (item : Item). item.key) (range_with_len 0 (entry_count block))
 
+-- a block is a good leaf by its level and the rules of its table
 leaf_is : (block : List ℕ) → is_leaf block ≡ (eqb (level_of block) 0 && rules_of block)
 unfolding is_leaf items rules_of
 leaf_is block = ap (λ keys. eqb (level_of block) 0 && (is_packed (25 * entry_count block) (length block - 101)
@@ -71,6 +75,7 @@ leaf_rules block n count level =
     ∙ ap (λ m. is_packed (25 * m) (length block - 101) (map (item_at block) (range_with_len 0 m)) && ascends
     (map (entry_key 25 block) (range_with_len 0 m))) (sym count)
 
+-- the items of a good leaf are packed from the block's end downwards, and their keys ascend
 parts_of : (block : List ℕ) → is_leaf block ≡ true → (is_packed (25 * entry_count block) (length block - 101)
     (map (item_at block) (range_with_len 0 (entry_count block))) ≡ true) × (ascends (map (entry_key 25 block) (range_with_len 0 (entry_count block))) ≡ true)
 unfolding rules_of
@@ -100,6 +105,7 @@ leaf_item_fits block header good i within =
 pub level-leaf : (block : List ℕ) → is_leaf block ≡ true → level_of block ≡ 0
 level-leaf block good = eqb-true _ _ (and_parts (eqb (level_of block) 0) (rules_of block) (sym (leaf_is block) ∙ good)).0
 
+-- the keys of a good leaf's items ascend
 pub ascends-items : (block : List ℕ) → is_leaf block ≡ true → ascends (map (λ (item : Item). item.key) (items block)) ≡ true
 unfolding items
 ascends-items block good = ap ascends (keys_of_items block) ∙ (parts_of block good).1
@@ -109,6 +115,7 @@ pub leaf_ascends : (block : List ℕ) → is_leaf block ≡ true → IsAscending
 leaf_ascends block good i j less within =
     ascends-order (entry_key 25 block) 0 (entry_count block) (parts_of block good).1 i j (omega arith) less (omega arith)
 
+-- the bytes of an item are those at its offset behind the header, as many as its size
 body-item_at : (block : List ℕ) (i : ℕ) → (item_at block i).body
     ≡ slice_range block (101 + (item_at block i).offset) (101 + (item_at block i).offset + (item_at block i).size)
 unfolding item_at

@@ -15,6 +15,7 @@ first_packed : (block : List ℕ) (table n end i : ℕ) → i < n → packed_fro
     (leb table (item_at block i).offset && packed_from block table n (item_at block i).offset (i + 1)))
 first_packed block table n end i more = ap (λ l. is_packed table end (map (item_at block) l)) (range_first i n more)
 
+-- no items are packed below any end
 pub packed_all : (block : List ℕ) (table n end i : ℕ) → n ≤ i → packed_from block table n end i ≡ true
 packed_all block table n end i done =
     let none : n - i ≡ 0 = omega arith in
@@ -71,6 +72,7 @@ pub record SoFar (whole : Bool) (block : List ℕ) (table n end i : ℕ) : Type 
   pub fits : table ≤ end → whole ≡ packed_from block table n end i
   pub broken : end < table → whole ≡ false
 
+-- an item that ends where it has to leaves the whole to the items behind it
 pub so_far_next : (whole : Bool) (block : List ℕ) (table n end i : ℕ) → SoFar whole block table n end i → i < n → (item_at block i).offset
     + (item_at block i).size ≡ end → SoFar whole block table n (item_at block i).offset (i + 1)
 so_far_next whole block table n end i before more ends = record {
@@ -82,6 +84,7 @@ so_far_next whole block table n end i before more ends = record {
       (cases_lt end table);
 }
 
+-- where an item does not end where it has to, the items are not packed
 pub so_far_gap : (whole : Bool) (block : List ℕ) (table n end i : ℕ) → SoFar whole block table n end i → i < n
     → ((item_at block i).offset + (item_at block i).size ≡ end → ⊥) → whole ≡ false
 so_far_gap whole block table n end i before more ends =
@@ -90,6 +93,7 @@ so_far_gap whole block table n end i before more ends =
     (λ (higher : table ≤ end). before.fits higher ∙ packed_gap block table n end i more ends)
     (cases_lt end table)
 
+-- once all items end where they have to, they are packed just where the last one does not begin in the table
 pub so_far_all : (whole : Bool) (block : List ℕ) (table n end i : ℕ) → SoFar whole block table n end i → n ≤ i → whole ≡ leb table end
 so_far_all whole block table n end i before done =
     ⊎_elim

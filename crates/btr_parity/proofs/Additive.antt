@@ -9,6 +9,7 @@ use Rattle.std.proofs.lemmas.Nat.{xor_comm, xor_lt, xor_block, pow_pos}
 pub record IsAdditive (f : ℕ → ℕ) : Type 0 where
   pub adds : (a b : ℕ) → f (bit_xor a b) ≡ bit_xor (f a) (f b)
 
+-- a function that keeps sums is 0 at 0
 pub zero_of : (f : ℕ → ℕ) → IsAdditive f → f 0 ≡ 0
 zero_of f add = ap f (sym (xor_self 0)) ∙ add.adds 0 0 ∙ xor_self (f 0)
 
@@ -37,9 +38,11 @@ xor_swap p q r s =
     xor_assoc p q (bit_xor r s) ∙ ap (bit_xor p) (sym (xor_assoc q r s) ∙ ap (λ x. bit_xor x s) (xor_comm q r) ∙ xor_assoc r q s)
     ∙ sym (xor_assoc p r (bit_xor q s))
 
+-- the coefficient 0 leaves nothing
 none : (a : ℕ) → 0 * a ≡ 0
 none a = omega arith
 
+-- the coefficient 1 leaves the number
 once : (a : ℕ) → 1 * a ≡ a
 once a = omega arith
 
@@ -57,25 +60,31 @@ coefficients-xor (suc zero) (suc zero) a h k = ap (λ x. x * a) (xor_self 1) ∙
 coefficients-xor (suc zero) (suc (suc d)) a h k = absurd (omega arith)
 coefficients-xor (suc (suc c)) d a h k = absurd (omega arith)
 
+-- one function that keeps sums after another one keeps sums
 pub after : (f g : ℕ → ℕ) → IsAdditive f → IsAdditive g → IsAdditive (λ a. f (g a))
 after f g add_f add_g = record { adds = λ a b. ap f (add_g.adds a b) ∙ add_f.adds (g a) (g b) }
 
+-- x times a polynomial keeps sums
 pub doubling : IsAdditive (λ a. 2 * a)
 doubling = record { adds = double-xor }
 
+-- leaving a number as it is keeps sums
 pub identity : IsAdditive (λ a. a)
 identity = record { adds = λ a b. refl }
 
 -- ---- additive functions that agree at the powers of x agree everywhere
 
+-- functions that keep sums and agree at 1 agree at each coefficient
 bit_of : (f g : ℕ → ℕ) → IsAdditive f → IsAdditive g → f 1 ≡ g 1 → (c : ℕ) → c < 2 → f c ≡ g c
 bit_of f g add_f add_g e zero h = zero_of f add_f ∙ sym (zero_of g add_g)
 bit_of f g add_f add_g e (suc zero) h = e
 bit_of f g add_f add_g e (suc (suc c)) h = absurd (omega arith)
 
+-- x times x^k is x^(k + 1)
 shift_in : (k : ℕ) → 2 * 2 ^ k ≡ 2 ^ suc k
 shift_in k = omega arith
 
+-- functions that keep sums and agree at the first n powers of x agree below x^n
 pub same_below : (n : ℕ) (f g : ℕ → ℕ) → IsAdditive f → IsAdditive g → ((k : ℕ) → k < n → f (2 ^ k) ≡ g (2 ^ k)) → (a : ℕ) → a < 2 ^ n → f a ≡ g a
 same_below zero f g add_f add_g agree a h =
     let e : a ≡ 0 = omega arith in
@@ -89,11 +98,13 @@ same_below (suc n) f g add_f add_g agree a h =
 
 -- ---- and one that is small there is small everywhere
 
+-- a function that keeps sums and is small at 1 is small at each coefficient
 small_bit : (m : ℕ) (f : ℕ → ℕ) → IsAdditive f → f 1 < 2 ^ m → (c : ℕ) → c < 2 → f c < 2 ^ m
 small_bit m f add_f e zero h = omega (arith, zero_of f add_f, pow_pos m)
 small_bit m f add_f e (suc zero) h = e
 small_bit m f add_f e (suc (suc c)) h = absurd (omega arith)
 
+-- a function that keeps sums and is small at the first n powers of x is small below x^n
 pub small_below : (m n : ℕ) (f : ℕ → ℕ) → IsAdditive f → ((k : ℕ) → k < n → f (2 ^ k) < 2 ^ m) → (a : ℕ) → a < 2 ^ n → f a < 2 ^ m
 small_below m zero f add_f small a h =
     let e : a ≡ 0 = omega arith in
@@ -113,15 +124,18 @@ abbrev pub upto : (ℕ → Bool) → ℕ → Bool
 upto p zero = true
 upto p (suc n) = cond (p n) (upto p n) false
 
-upto-both : (b c : Bool) → cond b c false ≡ true → (b ≡ true) × (c ≡ true)
+-- of two tests that hold both hold
+pub upto-both : (b c : Bool) → cond b c false ≡ true → (b ≡ true) × (c ≡ true)
 upto-both true c e = (refl, e)
 upto-both false c e = absurd (cc (e))
 
+-- what is tested of every number below a bound holds of each
 pub upto_holds : (p : ℕ → Bool) (n k : ℕ) → upto p n ≡ true → k < n → p k ≡ true
 upto_holds p zero k e h = absurd (omega arith)
 upto_holds p (suc n) k e h =
     let both = upto-both (p n) (upto p n) e in
     ⊎_elim (λ lt. upto_holds p n k both.1 lt) (λ le. ap p (last le) ∙ both.0) (cases_lt k n)
   where
+    -- a number below n + 1 that is not below n is n
     last : n ≤ k → k ≡ n
     last le = omega arith

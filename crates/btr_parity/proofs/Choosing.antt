@@ -12,21 +12,27 @@ use Rattle.btr_parity.proofs.Folding.{quotient_is_one, pair_is_one}
 use Rattle.btr_parity.proofs.Lost.{lost_by_p, lost_by_q, lost_by_both, plus_slice, parity_p_slice, weighted_slice, cleared}
 
 module _ (n k : ℕ) where
+  -- the way does not read the element
   abbrev Unread : Way → Element → Type 0
   Unread way element = UsesElement n k way element → ⊥
 
+  -- the way reads none of the wrong elements
   abbrev AllUnread : Way → List Element → Type 0
   AllUnread way wrong = All (Unread way) wrong
 
+  -- where nothing is wrong, the slice is taken as it stands
   none_wrong : AllUnread AsItStands []
   none_wrong = All-nil (Unread AsItStands)
 
+  -- a way that does not read the one wrong element reads none
   one_wrong : (way : Way) (e : Element) → Unread way e → AllUnread way (e ∷ [])
   one_wrong way e h = All-cons (Unread way) e [] h (All-nil (Unread way))
 
+  -- a way that reads neither of two wrong elements reads none
   two_wrong : (way : Way) (e f : Element) → Unread way e → Unread way f → AllUnread way (e ∷ f ∷ [])
   two_wrong way e f h g = All-cons (Unread way) e (f ∷ []) h (one_wrong way f g)
 
+  -- a way that there is, and that reads none of the wrong elements
   Choice : ℕ → List Element → Type 0
   Choice parity wrong = (way : Way) × IsWay n k parity way × AllUnread way wrong
 
@@ -36,16 +42,19 @@ module _ (n k : ℕ) where
   cases_own ParityP = inr (λ h. h)
   cases_own ParityQ = inr (λ h. h)
 
+  -- the slice itself is not read where it is come by by P
   own_unread_by_p : (e : Element) → UsesElement n k AsItStands e → Unread ByP e
   own_unread_by_p (Slice i) own r = r.1 own
   own_unread_by_p ParityP own r = own
   own_unread_by_p ParityQ own r = own
 
+  -- the slice itself is not read where it is come by by Q
   own_unread_by_q : (e : Element) → UsesElement n k AsItStands e → Unread ByQ e
   own_unread_by_q (Slice i) own r = r.1 own
   own_unread_by_q ParityP own r = own
   own_unread_by_q ParityQ own r = own
 
+  -- the slice itself is not read where it is come by by both parities
   own_unread_by_both : (j : ℕ) (e : Element) → UsesElement n k AsItStands e → Unread (ByBoth j) e
   own_unread_by_both j (Slice i) own r = r.1 own
   own_unread_by_both j ParityP own r = own
@@ -55,18 +64,21 @@ module _ (n k : ℕ) where
   Rebuilds : ℕ → Element → Type 0
   Rebuilds parity f = (way : Way) × IsWay n k parity way × Unread way f × ((e : Element) → UsesElement n k AsItStands e → Unread way e)
 
+  -- with two parities, the slice is rebuilt without another slice
   beside_slice : (parity i : ℕ) → 2 ≤ parity → i ≢ k → Rebuilds parity (Slice i)
   unfolding Rebuilds
   beside_slice parity i enough ne =
       ⊎_elim (λ lt. (ByBoth i, (enough, lt, ne), (λ r. r.2 refl), own_unread_by_both i))
       (λ le. (ByP, omega arith, (λ r. let within : i < n = r.0 in absurd (omega arith)), own_unread_by_p)) (cases_lt i n)
 
+  -- with two parities, the slice is rebuilt without any one other element
   beside : (parity : ℕ) (f : Element) → 2 ≤ parity → Rebuilds parity f
   unfolding Rebuilds
   beside parity (Slice i) enough = ⊎_elim (λ same. (ByP, omega arith, (λ r. r.1 same), own_unread_by_p)) (λ ne. beside_slice parity i enough ne) (cases_eq i k)
   beside parity ParityP enough = (ByQ, enough, (λ r. r), own_unread_by_q)
   beside parity ParityQ enough = (ByP, omega arith, (λ r. r), own_unread_by_p)
 
+  -- with at most as many wrong elements as there is parity, a way reads none of them
   choose : (parity : ℕ) (wrong : List Element) → length wrong ≤ parity → parity ≤ 2 → Choice parity wrong
   unfolding Choice Rebuilds
   choose parity [] few most = (AsItStands, tt, none_wrong)
@@ -82,6 +94,7 @@ module _ (n k : ℕ) where
       (cases_own e)
   choose parity (e ∷ f ∷ g ∷ wrong) few most = absurd (omega arith)
 
+-- where at most as many elements are wrong as there is parity, some way reads none of them
 pub some_way_reads_none_wrong : SomeWayReadsNoneWrong
 unfolding Choice
 some_way_reads_none_wrong n k parity wrong lt most few = choose n k parity wrong few most
@@ -92,23 +105,29 @@ some_way_reads_none_wrong n k parity wrong lt most few = choose n k parity wrong
 settled : (size : ℕ) (E : List ℕ → Type 0) (X Y : List ℕ) → IsTheOne size E Y → IsSlice size X → E X → IsTheOne size E X
 settled size E X Y one slice meets = subst (λ Z. IsTheOne size E Z) (sym (one.only X slice meets)) one
 
+-- equations that say the same have the same one solution
 same_equations : (size : ℕ) (E F : List ℕ → Type 0) (X : List ℕ) → ((Z : List ℕ) → E Z → F Z) → ((Z : List ℕ) → F Z → E Z) → IsTheOne size E X
     → IsTheOne size F X
 same_equations size E F X to from one = record { slice = one.slice; meets = to X one.meets; only = λ Z slice meets. one.only Z slice (from Z meets) }
 
 module _ (size n k : ℕ) (held right : Stripe) (lt : k < n) (most : n ≤ 63) (count : length held.slices ≡ n) (whole : IsConsistent size n right) where
+  -- the right slice
   abbrev slice : List ℕ
   slice = get_or right.slices k []
 
+  -- the right stripe has a slice k
   abbrev here : k < length right.slices
   here = omega (arith, whole.count)
 
+  -- the right slice is of the size
   slice_is : IsSlice size slice
   slice_is = All-get_or (IsSlice size) right.slices k [] (omega (arith, whole.count)) whole.sizes
 
+  -- the right P is a slice of the size
   p_is : IsSlice size right.p
   p_is = subst (IsSlice size) whole.p (parity_p_slice size right.slices whole.sizes)
 
+  -- the right Q is a slice of the size
   q_is : IsSlice size right.q
   q_is = subst (IsSlice size) whole.q (weighted_slice size 0 right.slices whole.sizes)
 
@@ -121,6 +140,7 @@ module _ (size n k : ℕ) (held right : Stripe) (lt : k < n) (most : n ≤ 63) (
       ∙ sym (ap (λ m. get_or (set right.slices k Z) m []) e ∙ get_or-set_same right.slices k Z [] (omega (arith, whole.count))))
       (λ ne. get_or-set_other held.slices k i Z [] ne ∙ same i within ne ∙ sym (get_or-set_other right.slices k i Z [] ne)) (cases_eq i k))
 
+  -- where P and all other slices are right, P gives the right slice
   by_p : ((i : ℕ) → i < n → i ≢ k → get_or held.slices i [] ≡ get_or right.slices i []) → held.p ≡ right.p → Gives size held k ByP slice
   by_p same p =
       same_equations size (FitsP size right.slices right.p k) (FitsP size held.slices held.p k) slice
@@ -128,6 +148,7 @@ module _ (size n k : ℕ) (held right : Stripe) (lt : k < n) (most : n ≤ 63) (
       (settled size (FitsP size right.slices right.p k) slice _ (lost_by_p size k right.slices right.p whole.sizes (omega (arith, whole.count)) p_is) slice_is
       (ap (parity_p size) (set-get_or right.slices k []) ∙ whole.p))
 
+  -- where Q and all other slices are right, Q gives the right slice
   by_q : ((i : ℕ) → i < n → i ≢ k → get_or held.slices i [] ≡ get_or right.slices i []) → held.q ≡ right.q → Gives size held k ByQ slice
   by_q same q =
       let R = parity_q size (set right.slices k (zeros size)) in
@@ -158,6 +179,7 @@ module _ (size n k : ℕ) (held right : Stripe) (lt : k < n) (most : n ≤ 63) (
       (λ other. get_or-set_other held.slices j i Y [] other ∙ same i inside ne other ∙ sym (get_or-set_other right.slices j i Y [] other)) (cases_eq i j)
       ∙ sym (get_or-set_other (set right.slices j Y) k i Z [] ne)) (cases_eq i k))
 
+  -- where P, Q and all but two slices are right, both give the right slice
   by_both : (j : ℕ) → j < n → j ≢ k → ((i : ℕ) → i < n → i ≢ k → i ≢ j → get_or held.slices i [] ≡ get_or right.slices i []) → held.p ≡ right.p
       → held.q ≡ right.q
       → Gives size held k (ByBoth j) slice
@@ -194,6 +216,7 @@ module _ (size n k : ℕ) (held right : Stripe) (lt : k < n) (most : n ≤ 63) (
         weighted_sum = ap (parity_q size) back ∙ whole.q;
       }))
 
+  -- where all elements that a way reads are right, the way gives the right slice
   gives : (parity : ℕ) (way : Way) → IsWay n k parity way → ((element : Element) → UsesElement n k way element → bytes_of held element
       ≡ bytes_of right element) → Gives size held k way slice
   gives parity AsItStands is same = same (Slice k) refl
@@ -201,9 +224,11 @@ module _ (size n k : ℕ) (held right : Stripe) (lt : k < n) (most : n ≤ 63) (
   gives parity ByQ is same = by_q (λ i h ne. same (Slice i) (h, ne)) (same ParityQ tt)
   gives parity (ByBoth j) is same = by_both j is.1 is.2 (λ i h ne other. same (Slice i) (h, ne, other)) (same ParityP tt) (same ParityQ tt)
 
+-- a way that reads right elements gives the right slice
 pub right_elements_give_right_slice : RightElementsGiveRightSlice
 right_elements_give_right_slice size n k parity held right way lt most count whole is same = gives size n k held right lt most count whole parity way is same
 
+-- where at most as many elements are wrong as there is parity, some way gives the right slice
 pub some_way_gives_right_slice : SomeWayGivesRightSlice
 some_way_gives_right_slice size n k parity held right wrong lt most enough few count whole same =
     let choice = some_way_reads_none_wrong n k parity wrong lt enough few in

@@ -18,11 +18,13 @@ use Rattle.btr_parity.proofs.Lost.{plus_comm, plus_assoc, plus-zeros, scaled-plu
 
 -- ---- slice by slice
 
+-- P with one more slice at the end is P and the slice
 p_of_one_more : (size : ℕ) (ds : List (List ℕ)) (d : List ℕ) → IsSlice size d → parity_p size (ds ++ d ∷ []) ≡ plus (parity_p size ds) d
 unfolding parity_p
 p_of_one_more size [] d h = plus_comm d (zeros size)
 p_of_one_more size (e ∷ ds) d h = ap (plus e) (p_of_one_more size ds d h) ∙ sym (plus_assoc e (parity_p size ds) d)
 
+-- the weighted sum with one more slice at the end is the sum and that slice by its power
 weighted_one_more : (size k : ℕ) (ds : List (List ℕ)) (d : List ℕ) → weighted size k (ds ++ d ∷ [])
     ≡ plus (weighted size k ds) (scaled (power (k + length ds)) d)
 unfolding weighted
@@ -35,11 +37,13 @@ weighted_one_more size k (e ∷ ds) d =
     ∙ sym (plus_assoc (scaled (power k) e) (weighted size (k + 1) ds) (scaled (power (k + 1 + length ds)) d))
     ∙ ap (λ n. plus (plus (scaled (power k) e) (weighted size (k + 1) ds)) (scaled (power n) d)) there
 
+-- Q with one more slice at the end is Q and the slice by its power
 q_of_one_more : (size : ℕ) (ds : List (List ℕ)) (d : List ℕ) → parity_q size (ds ++ d ∷ []) ≡ plus (parity_q size ds) (scaled (power (length ds)) d)
 q_of_one_more size ds d =
     let same : 0 + length ds ≡ length ds = omega arith in
     weighted_one_more size 0 ds d ∙ ap (λ n. plus (parity_q size ds) (scaled (power n) d)) same
 
+-- 2^(k + 1) times a slice is twice 2^k times it
 scaled_twice : (k : ℕ) (xs : List ℕ) → All IsByte xs → scaled (power (k + 1)) xs ≡ scaled 2 (scaled (power k) xs)
 unfolding power
 scaled_twice k [] h = refl
@@ -48,11 +52,13 @@ scaled_twice k (x ∷ xs) h =
     ap₂ (λ y ys. y ∷ ys) (ap (λ n. product (power n) x) more ∙ product_assoc 2 (power k) x (omega arith) (power-lt k) (All-head IsByte x xs h))
     (scaled_twice k xs (All-tail IsByte x xs h))
 
+-- 2^0 times a slice is the slice
 scaled_once : (xs : List ℕ) → All IsByte xs → scaled (power 0) xs ≡ xs
 unfolding power
 scaled_once [] h = refl
 scaled_once (x ∷ xs) h = ap₂ (λ y ys. y ∷ ys) (product-one x (All-head IsByte x xs h)) (scaled_once xs (All-tail IsByte x xs h))
 
+-- weights that begin one power later make twice the sum
 weighted_next : (size k : ℕ) (ds : List (List ℕ)) → All (IsSlice size) ds → weighted size (k + 1) ds ≡ scaled 2 (weighted size k ds)
 unfolding weighted
 weighted_next size k [] h = sym (scaled-zeros 2 size)
@@ -60,12 +66,14 @@ weighted_next size k (d ∷ ds) h =
     ap₂ plus (scaled_twice k d (All-head (IsSlice size) d ds h).bytes) (weighted_next size (k + 1) ds (All-tail (IsSlice size) d ds h))
     ∙ sym (scaled-plus 2 (scaled (power k) d) (weighted size (k + 1) ds))
 
+-- Q with one more slice in front is twice Q and the slice
 q_of_one_before : (size : ℕ) (ds : List (List ℕ)) (d : List ℕ) → All (IsSlice size) ds → IsSlice size d → parity_q size (d ∷ ds)
     ≡ plus (scaled 2 (parity_q size ds)) d
 unfolding weighted
 q_of_one_before size ds d h hd =
     ap₂ plus (scaled_once d hd.bytes) (weighted_next size 0 ds h) ∙ plus_comm d (scaled 2 (parity_q size ds))
 
+-- P and Q are made slice by slice
 pub parity_by_folding : ParityByFolding
 unfolding parity_p weighted
 parity_by_folding = record {
@@ -82,6 +90,7 @@ parity_by_folding = record {
 front_more : (ds : List (List ℕ)) (k : ℕ) → k < length ds → take (k + 1) ds ≡ take k ds ++ get_or ds k [] ∷ []
 front_more ds k lt = take_more ds k [] lt
 
+-- a loop that adds slices to P has added the first of them
 pub folding_onto_p : FoldingOntoP
 unfolding parity_p
 folding_onto_p = record {
@@ -108,6 +117,7 @@ q_front_more size k ds lt =
     ap (parity_q size) (front_more ds k lt) ∙ q_of_one_more size (take k ds) (get_or ds k [])
     ∙ ap (λ n. plus (parity_q size (take k ds)) (scaled (power n) (get_or ds k []))) long
 
+-- a loop that adds slices to Q has added the first of them by their powers
 pub folding_onto_q : FoldingOntoQ
 unfolding weighted
 folding_onto_q = record {
@@ -123,15 +133,18 @@ folding_onto_q = record {
 
 -- ---- solutions
 
+-- 2^i times a sum is the sum of the products, of bytes and of slices
 pub products_keep_sums : ProductsKeepSums
 products_keep_sums = record { of_bytes = λ i a b. (product-right (power i)).adds a b; of_slices = λ i xs ys. scaled-plus (power i) xs ys }
 
+-- 2^0 to 2^62 differ, and none is 0
 pub powers_differ_law : PowersDiffer
 powers_differ_law = record {
   nonzero = λ i h e. let pos : 0 < power i = power_pos i (omega arith) in absurd (omega arith);
   differ = λ i j h k same. ⊎_elim (λ e. e) (λ ne. absurd (powers_differ i j (omega arith) (omega arith) ne same)) (cases_eq i j);
 }
 
+-- 2^i * X = c has one solution, where i is at most 62
 pub quotient_is_one : QuotientIsOne
 quotient_is_one size i c h slice =
     let p = power i in
@@ -139,6 +152,7 @@ quotient_is_one size i c h slice =
     let one : product p d ≡ 1 = product-INVERSES p (power_pos i (omega arith)) (power-lt i) in
     (scaled d c, subst (λ n. IsTheOne n (Weighs i c) (scaled d c)) slice.long (weighs_one i d c (inverse-lt p) one slice.bytes))
 
+-- X + Y = p and 2^x * X + 2^y * Y = q have one solution, where x and y differ and are at most 62
 pub pair_is_one : PairIsOne
 pair_is_one size x y p q hx hy ne hp hq =
     let a = power x in

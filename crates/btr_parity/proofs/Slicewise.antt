@@ -10,6 +10,7 @@ over f (suc n) [] ys = []
 over f (suc n) (x ∷ xs) [] = x ∷ xs
 over f (suc n) (x ∷ xs) (y ∷ ys) = f x y ∷ over f n xs ys
 
+-- with the pair at n written, one pair more is done
 over_suc : (f : ℕ → ℕ → ℕ) (xs ys : List ℕ) (n : ℕ) → length xs ≡ length ys → n < length xs
     → set (over f n xs ys) n (f (get_or (over f n xs ys) n 0) (get_or ys n 0)) ≡ over f (suc n) xs ys
 over_suc f [] ys n e h = absurd (omega arith)
@@ -46,18 +47,22 @@ zip2-map_map h f g [] ys = refl
 zip2-map_map h f g (x ∷ xs) [] = refl
 zip2-map_map h f g (x ∷ xs) (y ∷ ys) = ap (λ r. h (f x) (g y) ∷ r) (zip2-map_map h f g xs ys)
 
+-- a function of each pair, whose right side is made from a list
 pub zip2-map_right : (h : ℕ → ℕ → ℕ) (g : ℕ → ℕ) (xs ys : List ℕ) → zip2 (λ x y. h x (g y)) xs ys ≡ zip2 h xs (map g ys)
 zip2-map_right h g xs ys = zip2-map_map h (λ x. x) g xs ys ∙ ap (λ l. zip2 h l (map g ys)) (map-id xs)
 
+-- a function of each pair, whose left side is made from a list
 pub zip2-map_left : (h : ℕ → ℕ → ℕ) (f : ℕ → ℕ) (xs ys : List ℕ) → zip2 (λ x y. h (f x) y) xs ys ≡ zip2 h (map f xs) ys
 zip2-map_left h f xs ys = zip2-map_map h f (λ y. y) xs ys ∙ ap (zip2 h (map f xs)) (map-id ys)
 
+-- a function of the left sides alone is one of the list
 pub zip2_of_first : (f : ℕ → ℕ) (xs : List ℕ) → zip2 (λ x y. f x) xs xs ≡ map f xs
 zip2_of_first f [] = refl
 zip2_of_first f (x ∷ xs) = ap (λ r. f x ∷ r) (zip2_of_first f xs)
 
 -- ---- many pairs at once
 
+-- m pairs at once, from the first on
 first_chunk : (f : ℕ → ℕ → ℕ) (m : ℕ) (xs ys : List ℕ) → length xs ≡ length ys → put_chunk 0 xs (zip2 f (take m xs) (take m ys)) ≡ over f m xs ys
 first_chunk f zero [] ys e = refl
 first_chunk f zero (x ∷ xs) ys e = refl

@@ -15,9 +15,11 @@ use Rattle.std.proofs.lemmas.Simd.{ones-mask_l, bit_mask_l}
 use lib.Lanes.{mask_l}
 use Rattle.btr_pool.specs.Ledger.{lent_of}
 
+-- the ledger has an entry for each slot
 pub length-lent_of : (count free : ℕ) → length (lent_of count free) ≡ count
 length-lent_of count free = length-map-range_with_len (λ k. eqb (bit_at free k) 0) 0 count
 
+-- a slot is lent where its bit is 0
 pub get_or-lent_of : (count free k : ℕ) (d : Bool) → k < count → get_or (lent_of count free) k d ≡ eqb (bit_at free k) 0
 get_or-lent_of count free k d lt = get_or-map-range_with_len (λ j. eqb (bit_at free j) 0) 0 count k k d lt (omega arith)
 
@@ -42,6 +44,7 @@ lent_changed count before after k lent few here others =
           ∙ sym (get_or-set_other old k i lent d ne)
     ])
 
+-- a bit is 1 or 0 as the test of it says
 bit_back : (b : ℕ) → b < 2 → cond (not (eqb b 0)) 1 0 ≡ b
 bit_back zero lt = refl
 bit_back (suc zero) lt = refl
@@ -79,16 +82,19 @@ bit_when_clear free k lt none =
     let test : bit_and free (bit k) ≡ bit_at free k * 2 ^ k = ap (bit_and free) (one_shl k 64 lt) ∙ and_pow free k in
     zero_factor (bit_at free k) (2 ^ k) (pow_pos k) (sym test ∙ none)
   where
+    -- where a product with a positive factor is 0, the other factor is 0
     zero_factor : (a b : ℕ) → 0 < b → a * b ≡ 0 → a ≡ 0
     zero_factor zero b pos e = refl
     zero_factor (suc a) b pos e = absurd (omega (arith, pos, e))
 
+-- where `free & (1 << k)` is not 0, the bit is 1
 pub bit_when_set : (free k : ℕ) → k < 64 → (bit_and free (bit k) ≡ 0 → ⊥) → bit_at free k ≡ 1
 bit_when_set free k lt some =
     let test : bit_and free (bit k) ≡ bit_at free k * 2 ^ k = ap (bit_and free) (one_shl k 64 lt) ∙ and_pow free k in
     let none : 0 * 2 ^ k ≡ 0 = omega arith in
     one_of (bit_at free k) (bit_at-lt free k) (λ e. some (test ∙ ap (λ b. b * 2 ^ k) e ∙ none))
   where
+    -- a bit that is not 0 is 1
     one_of : (a : ℕ) → a < 2 → (a ≡ 0 → ⊥) → a ≡ 1
     one_of zero lt ne = absurd (ne refl)
     one_of (suc zero) lt ne = refl
@@ -100,6 +106,7 @@ pub record IsLent (count free : ℕ) (lent : List Bool) (k : ℕ) : Type 0 where
   pub within : bit_and free (bit_not w64 (bit k)) < 2 ^ count
   pub after : lent_of count (bit_and free (bit_not w64 (bit k))) ≡ set lent k true
 
+-- a free slot whose bit is cleared is lent, and no other changes
 pub lent_when_free : (count free k : ℕ) (lent : List Bool) → lent_of count free ≡ lent → free < 2 ^ count → count ≤ 64 → k < 64 → bit_at free k ≡ 1
     → IsLent count free lent k
 lent_when_free count free k lent view within few lt one =
@@ -125,6 +132,7 @@ pub record IsFreed (count free : ℕ) (lent : List Bool) (k : ℕ) : Type 0 wher
   pub within : bit_or free (bit k) < 2 ^ count
   pub after : lent_of count (bit_or free (bit k)) ≡ set lent k false
 
+-- a slot whose bit is set is free, and no other changes
 pub freed : (count free k : ℕ) (lent : List Bool) → lent_of count free ≡ lent → free < 2 ^ count → count ≤ 64 → k < count → IsFreed count free lent k
 freed count free k lent view within few below =
     let lt : k < 64 = omega (arith, below, few) in
@@ -135,6 +143,7 @@ freed count free k lent view within few below =
       after = after ∙ ap (λ l. set l k false) view;
     }
   where
+    -- setting one bit leaves the other bits as they were
     bit_at_set_other_below : (free k : ℕ) → k < 64 → (i : ℕ) → i < 64 → i ≢ k → bit_at (bit_or free (bit k)) i ≡ bit_at free i
     bit_at_set_other_below free k lt i _ ne = bit_at_set_other w64 free k lt i ne
 
@@ -143,6 +152,7 @@ pub record IsAllFree (count free : ℕ) : Type 0 where
   pub within : free < 2 ^ count
   pub view : lent_of count free ≡ replicate count false
 
+-- with as many bits as there are slots, all are free
 pub all_free : (count : ℕ) → count ≤ 64 → IsAllFree count ((2 ^ 64 - 1) / 2 ^ (64 - count))
 all_free count few =
     let back : 64 - (64 - count) ≡ count = omega (arith, few) in

@@ -13,6 +13,7 @@ pub record AreLive (pool : Slots) (loans : List ℕ) : Type 0 where
   pub live : (i : ℕ) → i < length loans → IsLive pool (get_or loans i 0)
   pub distinct : (i j : ℕ) → i < length loans → j < length loans → get_or loans i 0 ≡ get_or loans j 0 → i ≡ j
 
+-- no loans in hand are all live
 pub are_live_none : (pool : Slots) → AreLive pool []
 are_live_none pool = record { live = λ i lt. absurd (omega (arith, lt)); distinct = λ i j lt _ _. absurd (omega (arith, lt)) }
 
@@ -61,21 +62,25 @@ are_live_given pool loans i are there = record {
       one_place j h (are.distinct (place j) (place h) (within j lt_j) (within h lt_h) (sym at_j ∙ same ∙ at_h));
 }
   where
+    -- behind a loan that was given back the others have moved one place down
     after : (j : ℕ) → j < length (remove loans i) → j + 1 < length loans
     after j lt = omega (arith, lt, length-remove loans i there)
 
+    -- the loans that are left are the old ones, from the one given back on by one place further
     moved : (j : ℕ) → get_or (remove loans i) j 0 ≡ get_or loans (cond (ltb j i) j (j + 1)) 0
     moved j = elim (cases_lt j i) [
       | inl below ↦ get_or-remove_below loans i 0 j below there ∙ ap (λ n. get_or loans n 0) (cond_below j i j (j + 1) below)
       | inr above ↦ get_or-remove_above loans i 0 j above there ∙ ap (λ n. get_or loans n 0) (cond_above j i j (j + 1) (j + 1) above refl)
     ]
 
+    -- the old place of a loan that is left is a place of the old ones
     within : (j : ℕ) → j < length (remove loans i) → cond (ltb j i) j (j + 1) < length loans
     within j lt = elim (cases_lt j i) [
       | inl below ↦ subst (λ n. n < length loans) (cond_below j i j (j + 1) below) (omega (arith, below, there))
       | inr above ↦ subst (λ n. n < length loans) (cond_above j i j (j + 1) (j + 1) above refl) (after j lt)
     ]
 
+    -- loans that are left and have one old place are one
     one_place : (j h : ℕ) → cond (ltb j i) j (j + 1) ≡ cond (ltb h i) h (h + 1) → j ≡ h
     one_place j h e = grind (arith, nat_tests)
 

@@ -14,6 +14,7 @@ use Rattle.btr_pool.specs.Slots.{Slots, IsLive, IsFree, free_count, bytes_at, lo
 pub live_below : (lent : List Bool) (k : ℕ) → get_or lent k false ≡ true → k < length lent
 live_below lent k live = elim (cases_lt k (length lent)) [ inl lt ↦ lt | inr past ↦ absurd (false≢true (sym (get_or_past lent k false past) ∙ live)) ]
 
+-- a slot that the list says is free is there
 pub free_below : (lent : List Bool) (k : ℕ) → get_or lent k true ≡ false → k < length lent
 free_below lent k free = elim (cases_lt k (length lent)) [ inl lt ↦ lt | inr past ↦ absurd (false≢true (sym free ∙ get_or_past lent k true past)) ]
 
@@ -39,9 +40,11 @@ live_after_take pool j k live = record {
   ];
 }
 
+-- the other loans stay live where one is given back
 pub live_after_give : (pool : Slots) (j k : ℕ) → j ≢ k → IsLive pool j → IsLive (with_free pool k) j
 live_after_give pool j k ne live = record { there = live.there; lent = get_or-set_other pool.lent k j false false ne ∙ live.lent }
 
+-- all loans stay live where bytes are written
 pub live_after_write : (pool : Slots) (j k : ℕ) (written : List ℕ) → IsLive pool j → IsLive (with_bytes pool k written) j
 live_after_write pool j k written live = record { there = omega (arith, live.there, length-set pool.bytes k written); lent = live.lent }
 
@@ -53,6 +56,7 @@ free_when_given pool k live = record { there = live.there; free = get_or-set_sam
 pub bytes_at-with_bytes_same : (pool : Slots) (k : ℕ) (written : List ℕ) → IsLive pool k → bytes_at (with_bytes pool k written) k ≡ written
 bytes_at-with_bytes_same pool k written live = get_or-set_same pool.bytes k written [] live.there
 
+-- other slots keep their bytes where one is written
 pub bytes_at-with_bytes_other : (pool : Slots) (j k : ℕ) (written : List ℕ) → j ≢ k → bytes_at (with_bytes pool k written) j ≡ bytes_at pool j
 bytes_at-with_bytes_other pool j k written ne = get_or-set_other pool.bytes k j written [] ne
 
@@ -63,6 +67,7 @@ with_free-with_lent pool k free =
     set-set pool.lent k true false ∙ ap (set pool.lent k) (sym free.free) ∙ set-get_or pool.lent k true in
     λ i. record { size = pool.size; lent = back i; bytes = pool.bytes }
 
+-- lending a free slot makes the free ones one fewer, by the list
 count_set : (lent : List Bool) (k : ℕ) → get_or lent k true ≡ false → count_by not (set lent k true) + 1 ≡ count_by not lent
 count_set lent k free =
     let counts : Bool → ℕ = λ b. cond (not b) 1 0 in
@@ -106,12 +111,14 @@ loans_of-with_lent pool k free =
     (ap (λ lent. cond lent (Some (bytes_at pool k)) None) live.lent)
     (λ j ne. ap (λ lent. cond lent (Some (bytes_at pool j)) None) (get_or-set_other pool.lent k j true false ne))
 
+-- giving a loan back takes it out of the map
 pub loans_of-with_free : (pool : Slots) (k : ℕ) → IsLive pool k → loans_of (with_free pool k) ≡ set (loans_of pool) k None
 loans_of-with_free pool k live =
     loans_changed pool (with_free pool k) k None (length-set pool.lent k false) (live_below pool.lent k live.lent)
     (ap (λ lent. cond lent (Some (bytes_at pool k)) None) (get_or-set_same pool.lent k false false (live_below pool.lent k live.lent)))
     (λ j ne. ap (λ lent. cond lent (Some (bytes_at pool j)) None) (get_or-set_other pool.lent k j false false ne))
 
+-- writing to a live loan changes its bytes in the map
 pub loans_of-with_bytes : (pool : Slots) (k : ℕ) (written : List ℕ) → IsLive pool k → loans_of (with_bytes pool k written)
     ≡ set (loans_of pool) k (Some written)
 loans_of-with_bytes pool k written live =
@@ -119,6 +126,7 @@ loans_of-with_bytes pool k written live =
     (ap (λ lent. cond lent (Some (bytes_at (with_bytes pool k written) k)) None) live.lent ∙ ap Some (bytes_at-with_bytes_same pool k written live))
     (λ j ne. ap (λ bytes. cond (get_or pool.lent j false) (Some bytes) None) (bytes_at-with_bytes_other pool j k written ne))
 
+-- writing to a free slot changes nothing in the map
 pub loans_of-with_bytes_free : (pool : Slots) (k : ℕ) (written : List ℕ) → IsFree pool k → loans_of (with_bytes pool k written) ≡ loans_of pool
 loans_of-with_bytes_free pool k written free =
     let none : loan_at pool k ≡ None = ap (λ lent. cond lent (Some (bytes_at pool k)) None) (lent_of_free pool.lent k free.free) in
@@ -141,6 +149,7 @@ count_by-loans_of pool =
     ∙ sym (fold-map (λ n lent. n + cond (not lent) 1 0) (λ k. get_or pool.lent k false) 0 places)
     ∙ ap (count_by not) (sym lent)
   where
+    -- a slot has no loan just where it is not lent
     none_of : (lent : Bool) (bytes : List ℕ) → is_none (cond lent (Some bytes) None) ≡ not lent
     none_of true bytes = refl
     none_of false bytes = refl

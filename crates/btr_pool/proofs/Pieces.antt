@@ -6,6 +6,7 @@ use Rattle.std.proofs.lemmas.List.{take-append-drop, take-append-le, take-take, 
 use Rattle.std.proofs.lemmas.List.{drop-replicate}
 use Rattle.btr_pool.specs.Slots.{pieces}
 
+-- a list is cut into as many pieces as are said
 pub length-pieces : (count size : ℕ) (bytes : List ℕ) → length (pieces count size bytes) ≡ count
 length-pieces zero size bytes = refl
 length-pieces (suc count) size bytes = ap suc (length-pieces count size (drop size bytes))

@@ -27,6 +27,7 @@ pub record IsRead (slots : Slots) (l : ℕ) (read : List ℕ) : Type 0 where
   pub value : read ≡ bytes_at slots l
   pub len : length read ≡ slots.size
 
+-- what is read at a live loan's place in the region is its slot's bytes, as many as a slot has
 pub read_when_live : (pool : Inside) (slots : Slots) (k l : ℕ) (read : List ℕ) → slots_of pool ≡ slots → IsPool pool → k ≡ l → IsLive slots l → read
     ≡ take (k * pool.size + pool.size - k * pool.size) (drop (k * pool.size) pool.region.items) → IsRead slots l read
 read_when_live pool slots k l read view inv is live value =

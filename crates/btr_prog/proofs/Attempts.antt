@@ -37,6 +37,7 @@ module _ {W F S I : Type 0} (Bs : I → BlockMap W F) where
   by_fate_goes (Ok bytes) k q ih g = ih bytes g
   by_fate_goes (Err f) k q ih g = (ap (λ r. r.marks) g, ap (λ r. r.ending) g)
 
+  -- a run of a program is one of attempting it
   pub tries_attempt : {A : Type 0} (p : Prog W F S A) (r : Run W F S A) → GoesTo Bs p r → TriesTo Bs (attempt p) r
   tries_attempt (Return a) r g = (ap (λ q. q.marks) g, ap (λ q. q.ending) g)
   tries_attempt (Stop f) r g = (ap (λ q. q.marks) g, ap (λ q. q.ending) g)
@@ -63,6 +64,7 @@ module _ {W F S I : Type 0} (Bs : I → BlockMap W F) where
       → AfterTo q.marks q.ending (λ a. TriesTo Bs (k a)) r → TriesTo Bs (value_then p k) r
   tries_value p k q r one two = by_ending q.ending refl
     where
+      -- one and then another by its value, for each way the first may end
       by_ending : (x : Result _ F) → q.ending ≡ x → TriesTo Bs (value_then p k) r
       by_ending (Ok a) e =
           let t = subst (λ y. AfterTo q.marks y (λ b. TriesTo Bs (k b)) r) e two in
@@ -76,9 +78,11 @@ module _ {W F S I : Type 0} (Bs : I → BlockMap W F) where
 
 -- a program whose steps are gathered has their wants, whatever the steps of the whole are
 module _ {W F T I : Type 0} (S : Type 0) (Bs : I → BlockMap W F) where
+  -- the marks of a run's wants, without its steps
   abbrev wants_in : {A : Type 0} → Run W F T A → List (Mark W S)
   wants_in r = want_marks (wants_of r.marks)
 
+  -- of one want: a run of what follows it comes, gathered, to its wants, and its steps and ending are the value
   given_goes : {A : Type 0} (x : Result (List ℕ) F) (k : List ℕ → Prog W F T A) (q : Run W F T A)
       → ((bytes : List ℕ) → GoesTo Bs (k bytes) q → ComesTo Bs (gathered (k bytes)) (wants_in q) (outcome_of q))
       → goes_given x (λ bytes. GoesTo Bs (k bytes)) q → ComesTo Bs (by_fate x (λ bytes. gathered (k bytes)) (λ f. outcome [] (Err f))) (wants_in q)
@@ -86,6 +90,7 @@ module _ {W F T I : Type 0} (S : Type 0) (Bs : I → BlockMap W F) where
   given_goes (Ok bytes) k q ih g = ih bytes g
   given_goes (Err f) k q ih g = (ap wants_in g, ap outcome_of g)
 
+  -- a program whose steps are gathered comes to a run's wants, with its steps and ending as the value
   pub comes_gathered : {A : Type 0} (p : Prog W F T A) (r : Run W F T A) → GoesTo Bs p r → ComesTo Bs (gathered p) (wants_in r) (outcome_of r)
   comes_gathered (Return a) r g = (ap wants_in g, ap outcome_of g)
   comes_gathered (Stop f) r g = (ap wants_in g, ap outcome_of g)
@@ -118,12 +123,15 @@ module _ {W F S T St I : Type 0} (Bs : I → BlockMap W F) (treat : St → T →
   abbrev pub Treating : St → T → Run W F S (Result St St) → Type 0
   Treating st t b = (q : Run W F S St) × TriesTo Bs (treat st t) q × (b ≡ and_then q (λ after. run [] (Ok (Ok after))))
 
+  -- the result of treating a program that has no value of its own is the last state
   abbrev pub last_state : St → Unit {0} → St
   last_state st u = st
 
+  -- the run treats the steps among these marks one after another
   abbrev Threads : St → List (Mark W T) → Run W F S St → Type 0
   Threads st ms r = ThreadsTo Treating last_state st ms (Ok tt) r
 
+  -- some marks, and the state they end with as what the next step goes on from
   abbrev as_state : List (Mark W S) → Result St F → Run W F S (Result St St)
   as_state ms x = after ms x (λ a. run [] (Ok (Ok a)))
 
@@ -143,6 +151,7 @@ module _ {W F S T St I : Type 0} (Bs : I → BlockMap W F) (treat : St → T →
       (comes_then Bs (treat st t) (on_value (λ after. treat_each treat after p)) q.marks [] (Err f) (Err f)
       (subst (λ y. ComesTo Bs (treat st t) q.marks y) e one) (refl, refl)))
 
+  -- treating the steps of a program's marks one after another is a run of the whole
   pub tries_each : (st : St) (p : Trying W F T (Unit {0})) (ms : List (Mark W T)) (r : Run W F S St) → ComesTo Bs p ms tt → Threads st ms r
       → TriesTo Bs (treat_each treat st p) r
   tries_each st (Done u) ms r h g =
@@ -164,12 +173,14 @@ module _ {W F S T St I : Type 0} (Bs : I → BlockMap W F) (treat : St → T →
 
 -- the run of a program under one of the maps
 module _ {W F T I : Type 0} (Bs : I → BlockMap W F) where
+  -- where one of the maps says what B says, the program's run under B is one by the maps
   pub comes_tried : (i : I) (B : BlockMap W F) (p : Trying W F T (Unit {0})) → ((w : W) → Bs i w ≡ B w) → ComesTo Bs p (tried B p).marks tt
   comes_tried i B (Done u) same = (refl, refl)
   comes_tried i B (Try w k) same =
       (i, (tried B (k (B w))).marks, refl, subst (λ x. ComesTo Bs (k x) (tried B (k (B w))).marks tt) (sym (same w)) (comes_tried i B (k (B w)) same))
   comes_tried i B (Act t p) same = ((tried B p).marks, refl, comes_tried i B p same)
 
+  -- a program without a value of its own ends its run with none
   pub tried_ends : (B : BlockMap W F) (p : Trying W F T (Unit {0})) → (tried B p).ending ≡ Ok tt
   tried_ends B (Done u) = refl
   tried_ends B (Try w k) = tried_ends B (k (B w))
@@ -177,9 +188,11 @@ module _ {W F T I : Type 0} (Bs : I → BlockMap W F) where
 
 -- a run of which no step is done: what is answered of it
 module _ {W F S T U A : Type 0} (Is : U → W → Type 0) (part : S → ℕ → Option S) (own : T → ℕ → Option T) where
+  -- a run without its steps
   abbrev only_wants : Run W F T A → Run W F S A
   only_wants r = run (want_marks (wants_of r.marks)) r.ending
 
+  -- a run broken off is, without its steps, broken off at the same want
   no_steps_in : (there : T → ℕ → Option T) (here : S → ℕ → Option S) (P : List W → Type 0) (r : Run W F T A) (done : List T) → Breaks there P r done
       → Breaks here P (only_wants r) []
   no_steps_in there here P r done b = record {
@@ -193,6 +206,7 @@ module _ {W F S T U A : Type 0} (Is : U → W → Type 0) (part : S → ℕ → 
     holds = subst P (sym (wants_of-marks S (wants_of b.before))) b.holds;
   }
 
+  -- what is answered of a run is answered of its wants alone, with no step done
   pub follows_wants : (seen : List W) (r : Run W F T A) (done : List T) (ans : Result A (Halt F U)) → Follows Is own seen r done ans
       → Follows Is part seen (only_wants r) [] ans
   follows_wants seen r done (Ok a) h = (sym (steps_of-marks S (wants_of r.marks)), h.1)
@@ -202,6 +216,7 @@ module _ {W F S T U A : Type 0} (Is : U → W → Type 0) (part : S → ℕ → 
 
 -- where each want comes to one thing there is one run
 module _ {W F S I : Type 0} (Bs : I → BlockMap W F) (B : BlockMap W F) (same : (i : I) (w : W) → Bs i w ≡ B w) where
+  -- where all maps agree, a trying program comes to the marks and the value of its run alone
   pub comes_one : {X : Type 0} (p : Trying W F S X) (ms : List (Mark W S)) (x : X) → ComesTo Bs p ms x → (ms ≡ (tried B p).marks) × (Ok x ≡ (tried B p).ending)
   comes_one (Done a) ms x h = (h.0, ap Ok h.1)
   comes_one (Try w k) ms x h =
@@ -211,6 +226,7 @@ module _ {W F S I : Type 0} (Bs : I → BlockMap W F) (B : BlockMap W F) (same :
       let r = comes_one p h.0 x h.2 in
       (h.1 ∙ ap (λ l. Does s ∷ l) r.0, r.1)
 
+  -- where all maps agree, a trying program has one run
   pub tries_one : {A : Type 0} (p : Trying W F S (Result A F)) (r : Run W F S A) → TriesTo Bs p r → r ≡ tried_run B p
   tries_one p r h =
       let c = comes_one p r.marks r.ending h in

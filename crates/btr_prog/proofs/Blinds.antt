@@ -10,9 +10,11 @@ use Rattle.btr_prog.proofs.Runs.{steps_of-append}
 use Rattle.btr_prog.proofs.Choices.{goes_map}
 use Rattle.btr_prog.proofs.Follow.{breaks_longer}
 
+-- of a want each map of Cs and C have the same, or may differ in their bytes where the test passes
 abbrev Alike : {W F J : Type 0} → (W → Bool) → (J → BlockMap W F) → BlockMap W F → W → Type 0
 Alike {J = J} plain Cs C w = (j : J) → IsAlike (plain w) (Cs j w) (C w)
 
+-- of a want each map of Bs has what some map of Cs has, or nothing
 abbrev Within : {W F I J : Type 0} → (I → BlockMap W F) → (J → BlockMap W F) → W → Type 0
 Within {I = I} {J = J} Bs Cs w = (i : I) → (j : J) × IsWithin (Bs i w) (Cs j w)
 
@@ -42,6 +44,7 @@ module _ {W F S A J : Type 0} (plain : W → Bool) (Cs : J → BlockMap W F) (C 
   given_same test (Ok b) (Err g) k q ih same (inr e) h d = absurd e.2
   given_same test (Err f) y k q ih same (inr e) h d = absurd e.1
 
+  -- all runs of a program that is blind to wants that may differ want the same and end alike
   pub blind_law : (p : Prog W F S A) (q : Run W F S A) → IsBlind plain p → Each (Alike plain Cs C) (needs C p) → GoesTo Cs p q → Same p q
   blind_law (Return a) q b h d = (ap (λ (x : Run W F S A). wants_of x.marks) d, ap (λ (x : Run W F S A). x.ending) d)
   blind_law (Stop f) q b h d = (ap (λ (x : Run W F S A). wants_of x.marks) d, ap (λ (x : Run W F S A). x.ending) d)
@@ -53,6 +56,7 @@ module _ {W F S A J : Type 0} (plain : W → Bool) (Cs : J → BlockMap W F) (C 
       (ap (λ (x : Run W F S A). wants_of x.marks) d.2 ∙ ap (λ x. w ∷ x) t.0, ap (λ (x : Run W F S A). x.ending) d.2 ∙ t.1)
 
 module _ {W F S A I J : Type 0} (some : J) (Bs : I → BlockMap W F) (Cs : J → BlockMap W F) where
+  -- a run of Cs, or one that is cut at a want that one of Bs lacks
   abbrev Cut : Prog W F S A → Run W F S A → Type 0
   Cut p r = GoesTo Cs p r ⊎ ((q : Run W F S A) × GoesTo Cs p q × Drops Bs q r)
 
@@ -78,6 +82,7 @@ module _ {W F S A I J : Type 0} (some : J) (Bs : I → BlockMap W F) (Cs : J →
         },
       )
 
+  -- a step before, and the run is one of Cs, or is cut
   more_step : (s : S) (p : Prog W F S A) (q r : Run W F S A) → r ≡ first (Does s) q → Cut p q → Cut (Emit s p) r
   more_step s p q r i (inl g) = inl (q, i, g)
   more_step s p q r i (inr g) =
@@ -119,6 +124,7 @@ module _ {W F S A I J : Type 0} (some : J) (Bs : I → BlockMap W F) (Cs : J →
     },
   )
 
+  -- where Bs have of each want what some map of Cs has or nothing, a run by Bs is one by Cs, or is cut
   pub goes_cut : (p : Prog W F S A) (r : Run W F S A) → ((q : Run W F S A) → GoesTo Cs p q → Each (Within Bs Cs) (wants_of q.marks)) → GoesTo Bs p r → Cut p r
   goes_cut (Return a) r h d = inl d
   goes_cut (Stop f) r h d = inl d
@@ -130,6 +136,7 @@ module _ {W F S A I J : Type 0} (some : J) (Bs : I → BlockMap W F) (Cs : J →
       (j.0, q, refl, subst (λ x. goes_given x (λ y. GoesTo Cs (k y)) q) (sym e) c)).1) g) d.3
 
   module _ {U : Type 0} (Is : U → W → Type 0) (part : S → ℕ → Option S) (seen : List W) (p : Prog W F S A) (done : List S) where
+    -- the answer is one by Cs, or the call stopped at a want that one of Bs lacks, with the steps before it
     abbrev Held : Result A (Halt F U) → Type 0
     Held ans = Goes Is part seen Cs p done ans ⊎ ((q : Run W F S A) × (r : Run W F S A) × GoesTo Cs p q × (m : Drops Bs q r)
         × (done ≡ steps_of m.before) × (ans ≡ Err (Fault m.fault)))
@@ -140,9 +147,11 @@ module _ {W F S A I J : Type 0} (some : J) (Bs : I → BlockMap W F) (Cs : J →
         let e : r.marks ++ m.behind ≡ q.marks = ap (λ x. x ++ m.behind) m.marks ∙ (append_assoc m.before (Wants m.want ∷ []) m.behind ∙ sym m.place) in
         subst (λ x. Breaks part P (run x q.ending) done) e (breaks_longer part P r m.behind q.ending done b)
 
+    -- the steps of a run that is cut at a want are those before that want
     drops_steps : (q r : Run W F S A) (m : Drops Bs q r) → done ≡ steps_of r.marks → done ≡ steps_of m.before
     drops_steps q r m e = e ∙ (ap steps_of m.marks ∙ (steps_of-append m.before (Wants m.want ∷ []) ∙ append-nil (steps_of m.before)))
 
+    -- an answer of a run that is one of Cs or cut is held to Cs
     held_by : (ans : Result A (Halt F U)) (r : Run W F S A) → Follows Is part seen r done ans → Cut p r → Held ans
     held_by ans r f (inl g) = inl (r, g, f)
     held_by (Ok a) r f (inr c) = let no : Ok a ≡ Err c.2.fault = sym f.1 ∙ c.2.ending in cc
@@ -153,6 +162,7 @@ module _ {W F S A I J : Type 0} (some : J) (Bs : I → BlockMap W F) (Cs : J →
     held_by (Err (Unread u)) r f (inr c) = inl (c.0, c.1, drops_place no_part (λ ws. Names Is u (seen ++ ws)) c.0 r c.2 f)
     held_by (Err Broke) r f (inr c) = inl (c.0, c.1, drops_place part (λ ws. Unit {0}) c.0 r c.2 f)
 
+    -- where the program is blind to what may differ among Cs, an answer by Bs is held to Cs
     pub goes_held : (plain : W → Bool) (C : BlockMap W F) (ans : Result A (Halt F U)) → IsBlind plain p
         → Each (λ w. (j : J) → IsAlike (plain w) (Cs j w) (C w)) (needs C p) → Each (Within Bs Cs) (needs C p) → Goes Is part seen Bs p done ans → Held ans
     goes_held plain C ans b h g n = held_by ans n.0 n.2 (goes_cut p n.0 (λ q c. subst (Each (Within Bs Cs)) (sym (blind_law plain Cs C p q b h c).0) g) n.1)

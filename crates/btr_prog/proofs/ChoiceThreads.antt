@@ -13,21 +13,25 @@ module _ {W F I : Type 0} (Bs : I → BlockMap W F) where
   after_weak ms (Err x) K L r f h = h
 
   module _ {S A T St R : Type 0} (body : St → S → Prog W F T (Result St R)) (done : St → A → R) where
+    -- the run treats these marks' steps, each by some run of its body
     abbrev Threads : St → List (Mark W S) → Result A F → Run W F T R → Type 0
     Threads st ms e r = ThreadsTo (λ st' s. GoesTo Bs (body st' s)) done st ms e r
 
+    -- on from a state that was treated, or the early end, as a run of the program
     go_in : (p : Prog W F S A) (ms : List (Mark W S)) (e : Result A F)
         → ((st : St) (r : Run W F T R) → Threads st ms e r → GoesTo Bs (thread body done st p) r) → (x : Result St R) (r : Run W F T R)
         → GoOnTo (λ st. Threads st ms e) x r → GoesTo Bs (go_on (λ st. thread body done st p) x) r
     go_in p ms e ih (Ok st) r h = ih st r h
     go_in p ms e ih (Err y) r h = h
 
+    -- of one want: treating the steps behind it is a run of what follows it
     given_in : (st : St) (x : Result (List ℕ) F) (k : List ℕ → Prog W F S A) (q : Run W F S A) (r : Run W F T R)
         → ((bytes : List ℕ) (t : Run W F S A) → GoesTo Bs (k bytes) t → Threads st t.marks t.ending r → GoesTo Bs (thread body done st (k bytes)) r)
         → goes_given x (λ bytes. GoesTo Bs (k bytes)) q → Threads st q.marks q.ending r → goes_given x (λ bytes. GoesTo Bs (thread body done st (k bytes))) r
     given_in st (Ok bytes) k q r ih g h = ih bytes q g h
     given_in st (Err f) k q r ih g h = subst (λ (t : Run W F S A). Threads st t.marks t.ending r) g h
 
+    -- a run that treats the steps of some run of a program is one of treating the program's steps
     pub goes_thread : (st : St) (p : Prog W F S A) (q : Run W F S A) (r : Run W F T R) → GoesTo Bs p q → Threads st q.marks q.ending r
         → GoesTo Bs (thread body done st p) r
     goes_thread st (Return a) q r g h = subst (λ (t : Run W F S A). Threads st t.marks t.ending r) g h
@@ -41,9 +45,11 @@ module _ {W F I : Type 0} (Bs : I → BlockMap W F) where
         (after_weak t.0.marks t.0.ending (GoOnTo (λ st'. Threads st' g.0.marks g.0.ending)) (λ x. GoesTo Bs (go_on (λ st'. thread body done st' p) x))
         r (go_in p g.0.marks g.0.ending (λ st' u d. goes_thread st' p g.0 u g.2 d)) t.2)
 
+    -- the run treats the steps of some run of the program
     abbrev Threaded : St → Prog W F S A → Run W F T R → Type 0
     Threaded st p r = (q : Run W F S A) × GoesTo Bs p q × Threads st q.marks q.ending r
 
+    -- of one want: a run of treating what follows it treats the steps of a run of that
     given_out : (st : St) (w : W) (j : I) (x : Result (List ℕ) F) (k : List ℕ → Prog W F S A) (q r : Run W F T R) → Bs j w ≡ x → r ≡ first (Wants w) q
         → ((bytes : List ℕ) (t : Run W F T R) → GoesTo Bs (thread body done st (k bytes)) t → Threaded st (k bytes) t)
         → goes_given x (λ bytes. GoesTo Bs (thread body done st (k bytes))) q → Threaded st (Need w k) r
@@ -63,6 +69,7 @@ module _ {W F I : Type 0} (Bs : I → BlockMap W F) where
     after_out i st s p ms (Ok (Err x)) r ih b d = (first (Does s) (exec (Bs i) p), (exec (Bs i) p, refl, goes_map Bs i p), (run ms (Ok (Err x)), b, d))
     after_out i st s p ms (Err f) r ih b d = (first (Does s) (exec (Bs i) p), (exec (Bs i) p, refl, goes_map Bs i p), (run ms (Err f), b, d))
 
+    -- each run of treating a program's steps treats the steps of some run of the program
     pub thread_goes : (i : I) (st : St) (p : Prog W F S A) (r : Run W F T R) → GoesTo Bs (thread body done st p) r → Threaded st p r
     thread_goes i st (Return a) r d = (run [] (Ok a), refl, d)
     thread_goes i st (Stop f) r d = (run [] (Err f), refl, d)

@@ -8,6 +8,7 @@ use Rattle.btr_prog.specs.Goes.{goes_given, GoesTo, AfterTo, Goes}
 use Rattle.btr_prog.proofs.Follow.{follows_behind, follows_halt, follows_alone, want_unread, step_done, step_broke, broke_here}
 
 module _ {W F S I A : Type 0} (Bs : I → BlockMap W F) (B : BlockMap W F) where
+  -- of one want: where all maps agree with B, what follows has B's run alone
   given_one : (x : Result (List ℕ) F) (k : List ℕ → Prog W F S A) (q : Run W F S A)
       → ((bytes : List ℕ) (s : Run W F S A) → Each (λ w. (i : I) → Bs i w ≡ B w) (needs B (k bytes)) → GoesTo Bs (k bytes) s → s ≡ exec B (k bytes))
       → Each (λ w. (i : I) → Bs i w ≡ B w) (wants_of (given x (λ bytes. exec B (k bytes))).marks) → goes_given x (λ bytes. GoesTo Bs (k bytes)) q → q
@@ -15,6 +16,7 @@ module _ {W F S I A : Type 0} (Bs : I → BlockMap W F) (B : BlockMap W F) where
   given_one (Ok bytes) k q ih h g = ih bytes q h g
   given_one (Err f) k q ih h g = g
 
+  -- where each want of B's run comes to what B says, B's run is the only one
   pub goes_one : (p : Prog W F S A) (r : Run W F S A) → Each (λ w. (i : I) → Bs i w ≡ B w) (needs B p) → GoesTo Bs p r → r ≡ exec B p
   goes_one (Return a) r h g = g
   goes_one (Stop f) r h g = g
@@ -22,6 +24,7 @@ module _ {W F S I A : Type 0} (Bs : I → BlockMap W F) (B : BlockMap W F) where
       (subst (λ x. goes_given x (λ bytes. GoesTo Bs (k bytes)) g.1) (h.0 g.0) g.3))
   goes_one (Emit s p) r h g = g.1 ∙ ap (first (Does s)) (goes_one p g.0 h g.2)
 
+  -- of one want: where some map agrees with B, B's run of what follows is one
   given_some : (x : Result (List ℕ) F) (k : List ℕ → Prog W F S A)
       → ((bytes : List ℕ) → Each (λ w. (i : I) × (Bs i w ≡ B w)) (needs B (k bytes)) → GoesTo Bs (k bytes) (exec B (k bytes)))
       → Each (λ w. (i : I) × (Bs i w ≡ B w)) (wants_of (given x (λ bytes. exec B (k bytes))).marks)
@@ -29,6 +32,7 @@ module _ {W F S I A : Type 0} (Bs : I → BlockMap W F) (B : BlockMap W F) where
   given_some (Ok bytes) k ih h = ih bytes h
   given_some (Err f) k ih h = refl
 
+  -- where each want of B's run may come to what B says, B's run is one
   pub goes_some : (p : Prog W F S A) → Each (λ w. (i : I) × (Bs i w ≡ B w)) (needs B p) → GoesTo Bs p (exec B p)
   goes_some (Return a) h = refl
   goes_some (Stop f) h = refl
@@ -45,6 +49,7 @@ module _ {W F S I : Type 0} (Bs : I → BlockMap W F) where
   given_map i (Ok bytes) k ih = ih bytes
   given_map i (Err f) k ih = refl
 
+  -- the run under one of the maps is a run
   pub goes_map : {A : Type 0} (i : I) (p : Prog W F S A) → GoesTo Bs p (exec (Bs i) p)
   goes_map i (Return a) = refl
   goes_map i (Stop f) = refl
@@ -52,12 +57,14 @@ module _ {W F S I : Type 0} (Bs : I → BlockMap W F) where
   goes_map i (Emit s p) = (exec (Bs i) p, refl, goes_map i p)
 
   module _ {J : Type 0} (Cs : J → BlockMap W F) where
+    -- of one want: where more is allowed, a run of what follows stays one
     given_more : {A : Type 0} (x : Result (List ℕ) F) (k : List ℕ → Prog W F S A) (q : Run W F S A)
         → ((bytes : List ℕ) (s : Run W F S A) → GoesTo Bs (k bytes) s → GoesTo Cs (k bytes) s) → goes_given x (λ bytes. GoesTo Bs (k bytes)) q
         → goes_given x (λ bytes. GoesTo Cs (k bytes)) q
     given_more (Ok bytes) k q ih g = ih bytes q g
     given_more (Err f) k q ih g = g
 
+    -- where more is allowed, a run stays one
     pub goes_more : {A : Type 0} (p : Prog W F S A) (r : Run W F S A) → ((i : I) (w : W) → (j : J) × (Cs j w ≡ Bs i w)) → GoesTo Bs p r → GoesTo Cs p r
     goes_more (Return a) r h g = g
     goes_more (Stop f) r h g = g
@@ -77,12 +84,14 @@ module _ {W F S I : Type 0} (Bs : I → BlockMap W F) where
   after_first m ms (Ok a) K r g = (prepend ms g.0, g.1, (g.0, refl, g.2))
   after_first m ms (Err f) K r g = (run ms (Err f), g, refl)
 
+  -- a run that comes after some marks comes, with a mark before it, after that mark and them
   first_after : {A C : Type 0} (m : Mark W S) (ms : List (Mark W S)) (e : Result A F) (K : A → Run W F S C → Type 0) (q r : Run W F S C) → r
       ≡ first m q → AfterTo ms e K q → AfterTo (m ∷ ms) e K r
   first_after m ms (Ok a) K q r e g = (g.0, e ∙ ap (first m) g.1, g.2)
   first_after m ms (Err f) K q r e g = e ∙ ap (first m) g
 
   module _ {A C : Type 0} (k : A → Prog W F S C) where
+    -- the run is one of the first program, and then one of the other by its value
     abbrev Bound : Prog W F S A → Run W F S C → Type 0
     Bound p r = (q : Run W F S A) × GoesTo Bs p q × AfterTo q.marks q.ending (λ a. GoesTo Bs (k a)) r
 
@@ -94,6 +103,7 @@ module _ {W F S I : Type 0} (Bs : I → BlockMap W F) where
     given_bind (Ok bytes) g q r ih d h = ih bytes q r d h
     given_bind (Err f) g q r ih d h = subst (λ (x : Run W F S A). AfterTo x.marks x.ending (λ a. GoesTo Bs (k a)) r) d h
 
+    -- a run of the first program and then one of the other is a run of both
     pub goes_bind : (p : Prog W F S A) (q : Run W F S A) (r : Run W F S C) → GoesTo Bs p q → AfterTo q.marks q.ending (λ a. GoesTo Bs (k a)) r
         → GoesTo Bs (bind p k) r
     goes_bind (Return a) q r d h =
@@ -126,6 +136,7 @@ module _ {W F S I : Type 0} (Bs : I → BlockMap W F) where
       c ∙ ap (first (Wants w)) d,
     )
 
+    -- a run of two programs is a run of the first, and then one of the other
     pub goes_parts : (p : Prog W F S A) (r : Run W F S C) → GoesTo Bs (bind p k) r → Bound p r
     goes_parts (Return a) r d = (run [] (Ok a), refl, (r, refl, d))
     goes_parts (Stop f) r d = (run [] (Err f), refl, d)
@@ -141,6 +152,7 @@ module _ {W F S I : Type 0} (Bs : I → BlockMap W F) where
   after_exec i k ms (Err f) = refl
 
   module _ {A C U : Type 0} (Is : U → W → Type 0) (part : S → ℕ → Option S) (seen : List W) (p : Prog W F S A) (k : A → Prog W F S C) where
+    -- a call that came to a value by some run, and then another: what that answers both answer
     pub goes_then : (r : Run W F S A) (a : A) (done more : List S) (ans : Result C (Halt F U)) → GoesTo Bs p r → Follows Is part seen r done (Ok a)
         → Goes Is part (seen ++ wants_of r.marks) Bs (k a) more ans → Goes Is part seen Bs (bind p k) (done ++ more) ans
     goes_then r a done more ans g h n = (
@@ -149,6 +161,7 @@ module _ {W F S I : Type 0} (Bs : I → BlockMap W F) where
       subst (λ (x : List S). Follows Is part seen (prepend r.marks n.0) (x ++ more) ans) (sym h.0) (follows_behind Is part seen r.marks n.0 more ans n.2),
     )
 
+    -- a call that came to no value, and then nothing: what it answers both answer
     pub goes_halt : (i : I) (done : List S) (h : Halt F U) → Goes Is part seen Bs p done (Err h) → Goes Is part seen Bs (bind p k) done (Err h)
     goes_halt i done h g =
         let r = g.0 in (
@@ -158,6 +171,7 @@ module _ {W F S I : Type 0} (Bs : I → BlockMap W F) where
         )
 
   module _ {A U : Type 0} (Is : U → W → Type 0) (part : S → ℕ → Option S) (seen : List W) where
+    -- what is answered after a want's bytes is answered of the want, where one of the maps gives them
     pub goes_came : (i : I) (w : W) (bytes : List ℕ) (k : List ℕ → Prog W F S A) (done : List S) (ans : Result A (Halt F U)) → Bs i w ≡ Ok bytes
         → Goes Is part (seen ++ (w ∷ [])) Bs (k bytes) done ans → Goes Is part seen Bs (Need w k) done ans
     goes_came i w bytes k done ans e h = (
@@ -166,6 +180,7 @@ module _ {W F S I : Type 0} (Bs : I → BlockMap W F) where
       follows_behind Is part seen (Wants w ∷ []) h.0 done ans h.2,
     )
 
+    -- a want that one of the maps has a fault for may end the call with that fault
     pub goes_faults : (i : I) (w : W) (f : F) (k : List ℕ → Prog W F S A) → Bs i w ≡ Err f → Goes Is part seen Bs (Need w k) [] (Err (Fault f))
     goes_faults i w f k e = (
       first (Wants w) (run [] (Err f)),
@@ -173,16 +188,20 @@ module _ {W F S I : Type 0} (Bs : I → BlockMap W F) where
       (refl, refl),
     )
 
+    -- a call may answer that its first want could not be read
     pub goes_unread : (i : I) (u : U) (w : W) (k : List ℕ → Prog W F S A) → Is u w → Goes Is part seen Bs (Need w k) [] (Err (Unread u))
     goes_unread i u w k h = (exec (Bs i) (Need w k), goes_map i (Need w k), want_unread Is part seen u w (given (Bs i w) (λ bytes. exec (Bs i) (k bytes))) h)
 
+    -- a step that was done stands before what comes then
     pub goes_step : (s : S) (p : Prog W F S A) (done : List S) (ans : Result A (Halt F U)) → Goes Is part seen Bs p done ans
         → Goes Is part seen Bs (Emit s p) (s ∷ done) ans
     goes_step s p done ans h = (first (Does s) h.0, (h.0, refl, h.1), step_done Is part seen s h.0 done ans h.2)
 
+    -- a call may be broken off in its first step, with a part of it done
     pub goes_broke : (i : I) (s t : S) (n : ℕ) (p : Prog W F S A) → part s n ≡ Some t → Goes Is part seen Bs (Emit s p) (t ∷ []) (Err Broke)
     goes_broke i s t n p e = (exec (Bs i) (Emit s p), goes_map i (Emit s p), step_broke Is part seen s t n (exec (Bs i) p) e)
 
+    -- a call may be broken off before it did anything
     pub goes_nowhere : (i : I) (p : Prog W F S A) → Goes Is part seen Bs p [] (Err Broke)
     goes_nowhere i p = (exec (Bs i) p, goes_map i p, broke_here Is part seen (exec (Bs i) p))
 
@@ -194,10 +213,12 @@ module _ {W F S I : Type 0} (Bs : I → BlockMap W F) where
   abbrev pub with_value : {A C : Type 0} → (A → C) → Run W F S A → Run W F S C
   with_value f r = and_then r (λ a. run [] (Ok (f a)))
 
+  -- a value put into another form comes after a run by its own ending
   after_value : {A C : Type 0} (f : A → C) (ms : List (Mark W S)) (e : Result A F)
       → AfterTo ms e (λ a. GoesTo Bs (Return (f a))) (after ms e (λ a. run [] (Ok (f a))))
   after_value f ms (Ok a) = (run [] (Ok (f a)), refl, refl)
   after_value f ms (Err x) = refl
 
+  -- a run of a program is, with its value in another form, a run of the program with that form
   pub goes_value : {A C : Type 0} (f : A → C) (p : Prog W F S A) (r : Run W F S A) → GoesTo Bs p r → GoesTo Bs (bind p (λ a. Return (f a))) (with_value f r)
   goes_value f p r g = goes_bind (λ a. Return (f a)) p r (with_value f r) g (after_value f r.marks r.ending)

@@ -9,6 +9,7 @@ use Rattle.btr_prog.specs.Goes.{ThreadsTo}
 use Rattle.btr_prog.proofs.Tries.{steps_of-marks, wants_of-marks}
 use Rattle.btr_prog.proofs.SoFars.{SoFar, so_far_more, so_far_ends, Answers}
 
+-- where a list and what may be left are nothing, the list is nothing
 nothing_left : {S : Type 0} (xs : List S) (o : Option S) → [] ≡ xs ++ option_to_list o → [] ≡ xs
 nothing_left [] o e = refl
 nothing_left (x ∷ xs) o e = cc
@@ -18,6 +19,7 @@ module _ {W F S A T St R : Type 0} (Body : St → S → Run W F T (Result St R) 
   abbrev pub Treats : St → Run W F S A → Run W F T R → Type 0
   Treats st r = ThreadsTo Body fin st r.marks r.ending
 
+  -- wants before the items stand before the run that treats them
   past_in : (ws : List W) (st : St) (r : Run W F S A) (q : Run W F T R) → Treats st r q → Treats st (prepend (want_marks ws) r) (prepend (want_marks ws) q)
   past_in [] st r q h = h
   past_in (w ∷ ws) st r q h = (prepend (want_marks ws) q, refl, past_in ws st r q h)
@@ -56,12 +58,14 @@ module _ {W F S A T St R : Type 0} (Body : St → S → Run W F T (Result St R) 
         )
     stops_at part P st e (Does s ∷ before) behind n h = cc
 
+    -- where a cursor was broken off before any item, so was some run that treats its items
     breaks_as : (part0 : S → ℕ → Option S) (part : T → ℕ → Option T) (P : List W → Type 0) (st : St) (r : Run W F S A) → Breaks part0 P r []
         → (q : Run W F T R) × Treats st r q × Breaks part P q []
     breaks_as part0 part P st r b =
         subst (λ ms. (q : Run W F T R) × ThreadsTo Body fin st ms r.ending q × Breaks part P q []) (sym b.place)
         (stops_at part P st r.ending b.before b.behind (nothing_left (steps_of b.before) b.left b.steps) b.holds)
 
+    -- where a cursor ends with a fault before any item, so does some run that treats its items
     ends_as : (st : St) (f : F) (ms : List (Mark W S)) (e : Result A F) → [] ≡ steps_of ms → e ≡ Err f → (q : Run W F T R)
         × ThreadsTo Body fin st ms e q × ([] ≡ steps_of q.marks) × (q.ending ≡ Err f)
     ends_as st f [] e n h = (

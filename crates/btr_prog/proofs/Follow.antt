@@ -7,11 +7,13 @@ use Rattle.btr_prog.specs.Answers.{Halt, Fault, Unread, Broke, Names, Leaves, no
 use Rattle.btr_prog.proofs.Runs.{steps_of-append, wants_of-append}
 
 module _ {W U : Type 0} (Is : U → W → Type 0) (u : U) where
+  -- a want named among the first is named among all
   pub names_left : (vs ws : List W) → Names Is u vs → Names Is u (vs ++ ws)
   names_left [] ws h = absurd h
   names_left (v ∷ vs) ws (inl e) = inl e
   names_left (v ∷ vs) ws (inr h) = inr (names_left vs ws h)
 
+  -- a want named among the last is named among all
   pub names_right : (vs ws : List W) → Names Is u ws → Names Is u (vs ++ ws)
   names_right [] ws h = h
   names_right (v ∷ vs) ws h = inr (names_right vs ws h)
@@ -64,6 +66,7 @@ module _ {W F S : Type 0} (part : S → ℕ → Option S) where
     holds = b.holds;
   }
 
+  -- a run that is broken off is so too where another was to follow by its value
   pub breaks_then : {A C : Type 0} (P : List W → Type 0) (ms : List (Mark W S)) (e : Result A F) (k : A → Run W F S C) (done : List S)
       → Breaks part P (run ms e) done → Breaks part P (after ms e k) done
   breaks_then P ms (Ok a) k done b = breaks_longer P (run ms (Ok a)) (k a).marks (k a).ending done b
@@ -92,12 +95,14 @@ module _ {W F S U : Type 0} (Is : U → W → Type 0) (part : S → ℕ → Opti
       (breaks_weak no_part _ (λ ws. Names Is u (seen ++ (wants_of ms ++ ws))) r done (λ ws g. subst (Names Is u) (append_assoc seen (wants_of ms) ws) g) h)
   follows_behind seen ms r done (Err Broke) h = breaks_behind part (λ ws. Unit {0}) ms r done h
 
+  -- a call that came to a value, and then another: what that answers they both answer
   pub follows_then : {A C : Type 0} (seen : List W) (r : Run W F S A) (a : A) (k : A → Run W F S C) (done more : List S) (ans : Result C (Halt F U))
       → Follows Is part seen r done (Ok a) → Follows Is part (seen ++ wants_of r.marks) (k a) more ans → Follows Is part seen (and_then r k) (done ++ more) ans
   follows_then seen r a k done more ans h g =
       subst (λ x. Follows Is part seen (after r.marks x k) (done ++ more) ans) (sym h.1)
       (subst (λ x. Follows Is part seen (prepend r.marks (k a)) (x ++ more) ans) (sym h.0) (follows_behind seen r.marks (k a) more ans g))
 
+  -- a call that came to no value, and then nothing: what it answers they both answer
   pub follows_halt : {A C : Type 0} (seen : List W) (r : Run W F S A) (k : A → Run W F S C) (done : List S) (h : Halt F U)
       → Follows Is part seen r done (Err h) → Follows Is part seen (and_then r k) done (Err h)
   follows_halt seen r k done (Fault f) h = subst (λ x. Follows Is part seen (after r.marks x k) done (Err (Fault f))) (sym h.1) (h.0, refl)
@@ -110,6 +115,7 @@ module _ {W F S U : Type 0} (Is : U → W → Type 0) (part : S → ℕ → Opti
   follows_value seen f r a done h = subst (λ (x : Result _ F). Follows Is part seen (after r.marks x (λ y. run [] (Ok (f y)))) done (Ok (f a)))
       (sym h.1) (h.0 ∙ ap steps_of (sym (append-nil r.marks)), refl)
 
+  -- what is answered stays so where more was wanted before
   pub follows_seen : {A : Type 0} (earlier seen : List W) (r : Run W F S A) (done : List S) (ans : Result A (Halt F U))
       → Follows Is part seen r done ans → Follows Is part (earlier ++ seen) r done ans
   follows_seen earlier seen r done (Ok a) h = h
@@ -123,22 +129,27 @@ module _ {W F S U : Type 0} (Is : U → W → Type 0) (part : S → ℕ → Opti
       → Follows Is part earlier r done ans
   follows_alone earlier r done ans h = subst (λ (x : List W). Follows Is part x r done ans) (append-nil earlier) (follows_seen earlier [] r done ans h)
 
+  -- a call may be broken off before it does anything
   pub broke_here : {A : Type 0} (seen : List W) (r : Run W F S A) → Follows Is part seen r [] (Err Broke)
   broke_here seen r = breaks_here part (λ ws. Unit {0}) r tt
 
+  -- a call may fail to read again a block that was wanted before, and then it does nothing
   pub unread_here : {A : Type 0} (seen : List W) (u : U) (r : Run W F S A) → Names Is u seen → Follows Is part seen r [] (Err (Unread u))
   unread_here seen u r h = breaks_here no_part (λ ws. Names Is u (seen ++ ws)) r (names_left Is u seen [] h)
 
+  -- what is answered after a want's bytes is answered of the want and what follows
   pub want_came : {A : Type 0} (seen : List W) (B : BlockMap W F) (w : W) (bytes : List ℕ) (k : List ℕ → Prog W F S A) (done : List S)
       (ans : Result A (Halt F U)) → B w ≡ Ok bytes → Follows Is part (seen ++ (w ∷ [])) (exec B (k bytes)) done ans
       → Follows Is part seen (first (Wants w) (given (B w) (λ bytes. exec B (k bytes)))) done ans
   want_came seen B w bytes k done ans e h = subst (λ x. Follows Is part seen (first (Wants w) (given x (λ bytes. exec B (k bytes)))) done ans) (sym e)
       (follows_behind seen (Wants w ∷ []) (exec B (k bytes)) done ans h)
 
+  -- a want that has a fault ends the call with it, with no step done
   pub want_faults : {A : Type 0} (seen : List W) (B : BlockMap W F) (w : W) (f : F) (k : List ℕ → Prog W F S A) → B w ≡ Err f
       → Follows Is part seen (first (Wants w) (given (B w) (λ bytes. exec B (k bytes)))) [] (Err (Fault f))
   want_faults seen B w f k e = subst (λ x. Follows Is part seen (first (Wants w) (given x (λ bytes. exec B (k bytes)))) [] (Err (Fault f))) (sym e) (refl, refl)
 
+  -- a want that could not be read ends the call, with no step done
   pub want_unread : {A : Type 0} (seen : List W) (u : U) (w : W) (r : Run W F S A) → Is u w → Follows Is part seen (first (Wants w) r) [] (Err (Unread u))
   want_unread seen u w r h = record {
     before = Wants w ∷ [];
@@ -150,15 +161,18 @@ module _ {W F S U : Type 0} (Is : U → W → Type 0) (part : S → ℕ → Opti
     holds = names_right Is u seen (w ∷ []) (inl h);
   }
 
+  -- a step that was done, and what came then
   pub step_done : {A : Type 0} (seen : List W) (s : S) (r : Run W F S A) (done : List S) (ans : Result A (Halt F U)) → Follows Is part seen r done ans
       → Follows Is part seen (first (Does s) r) (s ∷ done) ans
   step_done seen s r done ans h = follows_behind seen (Does s ∷ []) r done ans (subst (λ x. Follows Is part x r done ans) (sym (append-nil seen)) h)
 
+  -- a step that was broken off leaves its part, and nothing else
   pub step_broke : {A : Type 0} (seen : List W) (s t : S) (n : ℕ) (r : Run W F S A) → part s n ≡ Some t
       → Follows Is part seen (first (Does s) r) (t ∷ []) (Err Broke)
   step_broke seen s t n r h = record { before = []; behind = Does s ∷ r.marks; left = Some t; place = refl; steps = refl; leaves = (n, h); holds = tt }
 
 module _ {W U : Type 0} (Is Less : U → W → Type 0) (weaker : (u : U) (w : W) → Is u w → Less u w) where
+  -- a want that is named is named by any weaker word
   names_as : (u : U) (ws : List W) → Names Is u ws → Names Less u ws
   names_as u [] h = absurd h
   names_as u (w ∷ ws) (inl h) = inl (weaker u w h)

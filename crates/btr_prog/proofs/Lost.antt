@@ -9,6 +9,7 @@ module _ {W F S A : Type 0} (B : BlockMap W F) where
   abbrev Missing : List (Mark W S) → Result A F → Type 0
   Missing ms e = Each (λ w. IsWhole (B w)) (wants_of ms) ⊎ Loses {A = A} {C = A} B (run ms e) (cut B (run ms e))
 
+  -- a want before: it is the first that is lost, or the others decide
   missing_want : (w : W) (x : Result (List ℕ) F) (ms : List (Mark W S)) (e : Result A F) → B w ≡ x → Missing ms e → Missing (Wants w ∷ ms) e
   missing_want w (Err f) ms e i h = inr record {
     want = w;
@@ -34,6 +35,7 @@ module _ {W F S A : Type 0} (B : BlockMap W F) where
     ending = ap (λ x. ending_if x (first_fault B ms e)) i ∙ h.ending;
   }
 
+  -- a step before changes nothing of what is lost
   missing_step : (s : S) (ms : List (Mark W S)) (e : Result A F) → Missing ms e → Missing (Does s ∷ ms) e
   missing_step s ms e (inl h) = inl h
   missing_step s ms e (inr h) = inr record {
@@ -48,15 +50,18 @@ module _ {W F S A : Type 0} (B : BlockMap W F) where
     ending = h.ending;
   }
 
+  -- each run has all its wants from B, or is cut at the first that B lacks
   pub missing : (ms : List (Mark W S)) (e : Result A F) → Missing ms e
   missing [] e = inl tt
   missing (Wants w ∷ ms) e = missing_want w (B w) ms e refl (missing ms e)
   missing (Does s ∷ ms) e = missing_step s ms e (missing ms e)
 
+  -- a run of B's is C's where no want is lost, and else is C's up to the lost one
   lost_or_whole : (C : BlockMap W F) (p : Prog W F S A) → Each (λ w. IsWithin (B w) (C w)) (needs C p) → Missing (exec C p).marks (exec C p).ending
       → (exec B p ≡ exec C p) ⊎ Loses B (exec C p) (exec B p)
   lost_or_whole C p h (inl g) = inl (whole_law B C p h g)
   lost_or_whole C p h (inr g) = inr (subst (λ (r : Run W F S A). Loses B (exec C p) r) (sym (cut_law B C p h)) g)
 
+  -- where B has of each want C's bytes or none, its run is C's or stops at the first want that it lacks
   pub lost_law : (C : BlockMap W F) (p : Prog W F S A) → Each (λ w. IsWithin (B w) (C w)) (needs C p) → (exec B p ≡ exec C p) ⊎ Loses B (exec C p) (exec B p)
   lost_law C p h = lost_or_whole C p h (missing (exec C p).marks (exec C p).ending)

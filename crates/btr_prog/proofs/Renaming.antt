@@ -8,6 +8,7 @@ use Rattle.btr_prog.specs.Goes.{goes_given, GoesTo}
 use Rattle.btr_prog.specs.Stages.{renamed, renamed_marks, renamed_run}
 
 module _ {V W S : Type 0} (f : V → W) where
+  -- two lists of marks, one behind the other, are renamed each by itself
   renamed-append : (ms ns : List (Mark V S)) → renamed_marks f (ms ++ ns) ≡ renamed_marks f ms ++ renamed_marks f ns
   renamed-append [] ns = refl
   renamed-append (Wants v ∷ ms) ns = ap (λ x. Wants (f v) ∷ x) (renamed-append ms ns)
@@ -19,6 +20,7 @@ module _ {V W S : Type 0} (f : V → W) where
   steps_of-renamed (Wants v ∷ ms) = steps_of-renamed ms
   steps_of-renamed (Does s ∷ ms) = ap (λ x. s ∷ x) (steps_of-renamed ms)
 
+  -- what may be left of a step stays so where the wants are renamed
   leaves_renamed : (part : S → ℕ → Option S) (left : Option S) (ms : List (Mark V S)) → Leaves part left ms → Leaves part left (renamed_marks f ms)
   leaves_renamed part None ms h = tt
   leaves_renamed part (Some t) [] h = absurd h
@@ -37,11 +39,13 @@ module _ {V W S : Type 0} (f : V → W) where
   each_renamed P (Wants v ∷ ms) h = (h.0, each_renamed P ms h.1)
   each_renamed P (Does s ∷ ms) h = each_renamed P ms h
 
+  -- what holds of each renamed want holds of each want by its other name
   pub each_original : (P : W → Type 0) (ms : List (Mark V S)) → Each P (wants_of (renamed_marks f ms)) → Each (λ v. P (f v)) (wants_of ms)
   each_original P [] h = tt
   each_original P (Wants v ∷ ms) h = (h.0, each_original P ms h.1)
   each_original P (Does s ∷ ms) h = each_original P ms h
 
+  -- a want that is named is named by its other name
   names_renamed : {U : Type 0} (Is : U → W → Type 0) (u : U) (ms : List (Mark V S)) → Names (λ t v. Is t (f v)) u (wants_of ms)
       → Names Is u (wants_of (renamed_marks f ms))
   names_renamed Is u [] h = absurd h
@@ -50,6 +54,7 @@ module _ {V W S : Type 0} (f : V → W) where
   names_renamed Is u (Does s ∷ ms) h = names_renamed Is u ms h
 
 module _ {V W F S A : Type 0} (f : V → W) where
+  -- a run that is broken off is so where its wants go by other names
   breaks_renamed : (part : S → ℕ → Option S) (P : List V → Type 0) (Q : List W → Type 0) (r : Run V F S A) (done : List S)
       → ((ms : List (Mark V S)) → P (wants_of ms) → Q (wants_of (renamed_marks f ms))) → Breaks part P r done → Breaks part Q (renamed_run f r) done
   breaks_renamed part P Q r done g b = record {
@@ -62,6 +67,7 @@ module _ {V W F S A : Type 0} (f : V → W) where
     holds = g b.before b.holds;
   }
 
+  -- what is answered of a run holds where its wants go by other names
   pub follows_renamed : {U : Type 0} (Is : U → W → Type 0) (part : S → ℕ → Option S) (r : Run V F S A) (done : List S) (ans : Result A (Halt F U))
       → Follows (λ u v. Is u (f v)) part [] r done ans → Follows Is part [] (renamed_run f r) done ans
   follows_renamed Is part r done (Ok a) h = (h.0 ∙ sym (steps_of-renamed f r.marks), h.1)
@@ -70,24 +76,28 @@ module _ {V W F S A : Type 0} (f : V → W) where
       (λ ms n. names_renamed f Is u ms n) h
   follows_renamed Is part r done (Err Broke) h = breaks_renamed part (λ ws. Unit {0}) (λ ws. Unit {0}) r done (λ ms n. tt) h
 
+  -- of one want: the run of what follows it, renamed
   given_renamed : (B : BlockMap W F) (x : Result (List ℕ) F) (k : List ℕ → Prog V F S A)
       → ((bytes : List ℕ) → exec B (renamed f (k bytes)) ≡ renamed_run f (exec (λ v. B (f v)) (k bytes)))
       → given x (λ bytes. exec B (renamed f (k bytes))) ≡ renamed_run f (given x (λ bytes. exec (λ v. B (f v)) (k bytes)))
   given_renamed B (Ok bytes) k ih = ih bytes
   given_renamed B (Err x) k ih = refl
 
+  -- the run of a program whose wants go by other names is its run with renamed wants
   pub exec-renamed : (B : BlockMap W F) (p : Prog V F S A) → exec B (renamed f p) ≡ renamed_run f (exec (λ v. B (f v)) p)
   exec-renamed B (Return a) = refl
   exec-renamed B (Stop x) = refl
   exec-renamed B (Need v k) = ap (first (Wants (f v))) (given_renamed B (B (f v)) k (λ bytes. exec-renamed B (k bytes)))
   exec-renamed B (Emit s p) = ap (first (Does s)) (exec-renamed B p)
 
+  -- of one want: a run of what follows it is one of the renamed program
   given_goes : {I : Type 0} (Bs : I → BlockMap W F) (x : Result (List ℕ) F) (k : List ℕ → Prog V F S A) (q : Run V F S A)
       → ((bytes : List ℕ) (t : Run V F S A) → GoesTo (λ i v. Bs i (f v)) (k bytes) t → GoesTo Bs (renamed f (k bytes)) (renamed_run f t))
       → goes_given x (λ bytes. GoesTo (λ i v. Bs i (f v)) (k bytes)) q → goes_given x (λ bytes. GoesTo Bs (renamed f (k bytes))) (renamed_run f q)
   given_goes Bs (Ok bytes) k q ih h = ih bytes q h
   given_goes Bs (Err x) k q ih h = ap (renamed_run f) h
 
+  -- a run of a program is, renamed, one of the renamed program
   pub goes_renamed : {I : Type 0} (Bs : I → BlockMap W F) (p : Prog V F S A) (r : Run V F S A) → GoesTo (λ i v. Bs i (f v)) p r
       → GoesTo Bs (renamed f p) (renamed_run f r)
   goes_renamed Bs (Return a) r h = ap (renamed_run f) h

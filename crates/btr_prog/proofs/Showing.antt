@@ -8,9 +8,11 @@ use Rattle.btr_prog.specs.Quiet.{quiet}
 use Rattle.btr_prog.specs.Shows.{AreAlike, OnlyShows}
 
 module _ {W F S A : Type 0} (R : S → S → Type 0) where
+  -- two programs want the same under a map and end alike
   abbrev Same : BlockMap W F → Prog W F S A → Prog W F S A → Type 0
   Same B p q = (needs B p ≡ needs B q) × ((exec B p).ending ≡ (exec B q).ending)
 
+  -- of one want: where what follows wants the same and ends alike, so does the whole
   given_same : (B : BlockMap W F) (w : W) (x : Result (List ℕ) F) (k l : List ℕ → Prog W F S A) → ((b : List ℕ) → Same B (k b) (l b))
       → ((w ∷ wants_of (given x (λ b. exec B (k b))).marks) ≡ (w ∷ wants_of (given x (λ b. exec B (l b))).marks))
       × ((given x (λ b. exec B (k b))).ending ≡ (given x (λ b. exec B (l b))).ending)
@@ -33,6 +35,7 @@ module _ {W F S A : Type 0} (R : S → S → Type 0) where
   shows_blind plain (Need w k) h = (λ b. shows_blind plain (k b) (h.0 b), λ t b c. alike_wants (k b) (k c) (h.1 t b c))
   shows_blind plain (Emit s p) h = shows_blind plain p h
 
+  -- where each step is alike itself, a program is alike itself
   pub alike_refl : ((s : S) → R s s) → (p : Prog W F S A) → AreAlike R p p
   alike_refl r (Return a) = refl
   alike_refl r (Stop f) = refl
@@ -40,6 +43,7 @@ module _ {W F S A : Type 0} (R : S → S → Type 0) where
   alike_refl r (Emit s p) = (r s, alike_refl r p)
 
 module _ {W F S A C : Type 0} (R : S → S → Type 0) where
+  -- alike programs, and then alike ones by their value, are alike
   pub alike_bind : (p q : Prog W F S A) (k l : A → Prog W F S C) → AreAlike R p q → ((a : A) → AreAlike R (k a) (l a)) → AreAlike R (bind p k) (bind q l)
   alike_bind (Return a) (Return b) k l e h = subst (λ x. AreAlike R (k a) (l x)) e (h a)
   alike_bind (Stop f) (Stop g) k l e h = e
@@ -57,10 +61,12 @@ module _ {W F S A C : Type 0} (R : S → S → Type 0) where
 
 module _ {W F S T A St X : Type 0} (R : S → S → Type 0) (Q : T → T → Type 0) (all : (t : T) → Q t t) (body : St → S → Prog W F T (Result St X))
     (done : St → A → X) where
+  -- on by the state or to the early end: alike programs stay alike
   alike_on : (k l : St → Prog W F T X) → ((st : St) → AreAlike Q (k st) (l st)) → (r : Result St X) → AreAlike Q (go_on k r) (go_on l r)
   alike_on k l h (Ok st) = h st
   alike_on k l h (Err x) = refl
 
+  -- treating the steps of alike programs, by a body that is alike for alike steps, is alike
   pub alike_thread : ((st : St) (s t : S) → R s t → AreAlike Q (body st s) (body st t)) → (st : St) (p q : Prog W F S A) → AreAlike R p q
       → AreAlike Q (thread body done st p) (thread body done st q)
   alike_thread g st (Return a) (Return b) e = ap (done st) e
@@ -72,6 +78,7 @@ module _ {W F S T A St X : Type 0} (R : S → S → Type 0) (Q : T → T → Typ
   alike_thread g st p q e = absurd e
 
   module _ (plain : W → Bool) where
+    -- on by the state or to the early end: a program that only shows still does
     shows_on : (k : St → Prog W F T X) → ((st : St) → OnlyShows Q plain (k st)) → (r : Result St X) → OnlyShows Q plain (go_on k r)
     shows_on k h (Ok st) = h st
     shows_on k h (Err x) = tt
@@ -86,6 +93,7 @@ module _ {W F S T A St X : Type 0} (R : S → S → Type 0) (Q : T → T → Typ
         (shows_on (λ st'. thread body done st' p) (λ st'. shows_thread h g st' p e))
 
 module _ {W F S A : Type 0} (R : ⊥ → ⊥ → Type 0) (Q : S → S → Type 0) where
+  -- alike programs without steps are alike as parts
   pub alike_quiet : (p q : Prog W F ⊥ A) → AreAlike R p q → AreAlike Q (quiet p) (quiet q)
   alike_quiet (Return a) (Return b) e = e
   alike_quiet (Stop f) (Stop g) e = e
@@ -93,6 +101,7 @@ module _ {W F S A : Type 0} (R : ⊥ → ⊥ → Type 0) (Q : S → S → Type 0
   alike_quiet (Emit s p) q e = absurd s
   alike_quiet p q e = absurd e
 
+  -- a program without steps that only shows does so as a part
   pub shows_quiet : (plain : W → Bool) (p : Prog W F ⊥ A) → OnlyShows R plain p → OnlyShows Q plain (quiet p)
   shows_quiet plain (Return a) h = tt
   shows_quiet plain (Stop f) h = tt
@@ -100,6 +109,7 @@ module _ {W F S A : Type 0} (R : ⊥ → ⊥ → Type 0) (Q : S → S → Type 0
   shows_quiet plain (Emit s p) h = absurd s
 
 module _ {V W F S A : Type 0} (f : V → W) (R : S → S → Type 0) where
+  -- alike programs are alike where their wants go by other names
   pub alike_renamed : (p q : Prog V F S A) → AreAlike R p q → AreAlike R (renamed f p) (renamed f q)
   alike_renamed (Return a) (Return b) e = e
   alike_renamed (Stop x) (Stop y) e = e
@@ -107,6 +117,7 @@ module _ {V W F S A : Type 0} (f : V → W) (R : S → S → Type 0) where
   alike_renamed (Emit s p) (Emit t q) e = (e.0, alike_renamed p q e.1)
   alike_renamed p q e = absurd e
 
+  -- a program that only shows does so where its wants go by other names
   pub shows_renamed : (plain : W → Bool) (p : Prog V F S A) → OnlyShows R (λ v. plain (f v)) p → OnlyShows R plain (renamed f p)
   shows_renamed plain (Return a) h = tt
   shows_renamed plain (Stop x) h = tt
@@ -114,6 +125,7 @@ module _ {V W F S A : Type 0} (f : V → W) (R : S → S → Type 0) where
   shows_renamed plain (Emit s p) h = shows_renamed plain p h
 
 module _ {T X W F S A : Type 0} (R : S → S → Type 0) (all : (s : S) → R s s) (plain : Staged T W → Bool) (refused : X → A) where
+  -- the rest under any table, or the refusal, only shows
   shows_rest : (k : T → Prog W F S A) → ((t : T) → OnlyShows R (λ w. plain (Late t w)) (k t)) → (x : Result T X)
       → OnlyShows R plain (unless_refused refused (λ (t : T). renamed (Late t) (k t)) x)
   shows_rest k h (Ok t) = shows_renamed (Late t) R plain (k t) (h t)

@@ -48,12 +48,15 @@ abbrev pub Answers : {W F S A U : Type 0} → (U → W → Type 0) → (S → �
 Answers Is part Whole done ans = (r : Run _ _ _ _) × Whole r × Follows Is part [] r done ans
 
 module _ {W F S A T St R : Type 0} (Body : St → S → Run W F T (Result St R) → Type 0) (fin : St → A → R) (ms : List (Mark W S)) (e : Result A F) where
+  -- the run treats the items that are left, from a state
   abbrev Left : St → Run W F T R → Type 0
   Left st = ThreadsTo Body fin st ms e
 
+  -- the run treats one item from a state, and then those that are left
   abbrev LeftFrom : St → S → Run W F T R → Type 0
   LeftFrom st s = ThreadsTo Body fin st (Does s ∷ ms) e
 
+  -- the marks of a body that gave a new state stand before a run that treats what is left
   treated : (st' : St) (marks : List (Mark W T)) (x : Result (Result St R) F) (q : Run W F T R) → x ≡ Ok (Ok st') → Left st' q
       → AfterTo marks x (GoOnTo Left) (prepend marks q)
   treated st' marks x q i h = subst (λ y. AfterTo marks y (GoOnTo Left) (prepend marks q)) (sym i) (q, refl, h)
@@ -78,6 +81,7 @@ module _ {W F S A T St R : Type 0} (Body : St → S → Run W F T (Result St R) 
         (f.0, refl),
       )
 
+  -- a body of any ending goes on by some run
   after_some : (k : St → Run W F T R) → ((st : St) → Left st (k st)) → (marks : List (Mark W T)) (x : Result (Result St R) F)
       → AfterTo marks x (GoOnTo Left) (after marks x (go_on_run k))
   after_some k h marks (Ok (Ok st)) = (k st, refl, h st)
@@ -103,22 +107,28 @@ module _ {W F S A T St R : Type 0} (Body : St → S → Run W F T (Result St R) 
 -- Where the items that are left are known, and not the wants between them: the next item, or the end
 module _ {W F S A T St R : Type 0} (Body : St → S → Run W F T (Result St R) → Type 0) (fin : St → A → R) (e : Result A F) (Whole : Run W F T R → Type 0)
     (done : List T) (st : St) where
+  -- so far some wants are past, and a run that treats these marks is to come
   abbrev Ahead : List (Mark W S) → List W → Type 0
   Ahead ms seen = SoFar Whole (ThreadsTo Body fin st ms e) seen done
 
+  -- some more wants are past, and an item comes next, with the others behind it
   abbrev pub Next : S → List S → List W → Type 0
   Next s items seen = (more : List W) × (ms : List (Mark W S)) × (steps_of ms ≡ items) × Ahead (Does s ∷ ms) (seen ++ more)
 
+  -- some more wants are past, and no item is left
   abbrev pub Last : List W → Type 0
   Last seen = (more : List W) × Ahead [] (seen ++ more)
 
+  -- a want that comes first is past
   past_want : (w : W) (ms : List (Mark W S)) (seen : List W) → Ahead (Wants w ∷ ms) seen → Ahead ms (seen ++ (w ∷ []))
   past_want w ms seen s = subst (λ (x : List T). SoFar Whole (ThreadsTo Body fin st ms e) (seen ++ (w ∷ [])) x) (append-nil done)
       (so_far_more Whole (ThreadsTo Body fin st (Wants w ∷ ms) e) (ThreadsTo Body fin st ms e) seen done (Wants w ∷ []) (λ q h. (q, refl, h)) s)
 
+  -- no more wants are past
   here : (ms : List (Mark W S)) (seen : List W) → Ahead ms seen → Ahead ms (seen ++ [])
   here ms seen s = subst (Ahead ms) (sym (append-nil seen)) s
 
+  -- where an item is left, it comes next behind some wants
   pub so_far_next : (ms : List (Mark W S)) (s : S) (items : List S) (seen : List W) → steps_of ms ≡ s ∷ items → Ahead ms seen → Next s items seen
   so_far_next [] s items seen i sofar = cc
   so_far_next (Wants w ∷ ms) s items seen i sofar =
@@ -129,6 +139,7 @@ module _ {W F S A T St R : Type 0} (Body : St → S → Run W F T (Result St R) 
       let rest : steps_of ms ≡ items = cc in
       ([], ms, rest, here (Does s ∷ ms) seen (subst (λ x. Ahead (Does x ∷ ms) seen) same sofar))
 
+  -- where no item is left, only wants are, and they are past
   pub so_far_last : (ms : List (Mark W S)) (seen : List W) → steps_of ms ≡ [] → Ahead ms seen → Last seen
   so_far_last [] seen i sofar = ([], here [] seen sofar)
   so_far_last (Wants w ∷ ms) seen i sofar =
@@ -137,12 +148,15 @@ module _ {W F S A T St R : Type 0} (Body : St → S → Run W F T (Result St R) 
   so_far_last (Does t ∷ ms) seen i sofar = cc
 
 module _ {W F S A T St R I : Type 0} (Bs : I → BlockMap W F) (i : I) (body : St → S → Prog W F T (Result St R)) (fin : St → A → R) where
+  -- the run that treats these marks by the runs of one of the maps
   abbrev pub some_run : St → List (Mark W S) → Result A F → Run W F T R
   some_run st ms e = thread_run (λ st' s. exec (Bs i) (body st' s)) fin st ms e
 
+  -- a run of the body, by any of the maps
   abbrev Goings : St → S → Run W F T (Result St R) → Type 0
   Goings st s b = GoesTo Bs (body st s) b
 
+  -- what comes after a body can be a run by one of the maps
   after_map : (ms : List (Mark W S)) (e : Result A F) → ((st : St) → ThreadsTo Goings fin st ms e (some_run st ms e))
       → (marks : List (Mark W T)) (x : Result (Result St R) F)
       → AfterTo marks x (GoOnTo (λ st. ThreadsTo Goings fin st ms e)) (after marks x (go_on_run (λ st. some_run st ms e)))
@@ -159,15 +173,18 @@ module _ {W F S A T St R I : Type 0} (Bs : I → BlockMap W F) (i : I) (body : S
       (b, goes_map Bs i (body st s), after_map ms e (λ st'. threads_map st' ms e) b.marks b.ending)
 
 module _ {W F S A T St R : Type 0} (B : BlockMap W F) (body : St → S → Prog W F T (Result St R)) (fin : St → A → R) where
+  -- a run of the body under the map B
   abbrev Exec : St → S → Run W F T (Result St R) → Type 0
   Exec st s b = b ≡ exec B (body st s)
 
+  -- where each run that goes on is known, what comes after a body is one run
   after_one : (ms : List (Mark W T)) (e : Result (Result St R) F) (K : St → Run W F T R → Type 0) (k : St → Run W F T R) (r : Run W F T R)
       → ((st : St) (q : Run W F T R) → K st q → q ≡ k st) → AfterTo ms e (GoOnTo K) r → r ≡ after ms e (go_on_run k)
   after_one ms (Ok (Ok st)) K k r f h = h.1 ∙ ap (prepend ms) (f st h.0 h.2)
   after_one ms (Ok (Err x)) K k r f h = h.1 ∙ ap (prepend ms) h.2
   after_one ms (Err x) K k r f h = h
 
+  -- where each body has one run, treating these marks has one
   threads_one : (st : St) (ms : List (Mark W S)) (e : Result A F) (r : Run W F T R) → ThreadsTo Exec fin st ms e r → r
       ≡ thread_run (λ st' s. exec B (body st' s)) fin st ms e
   threads_one st [] e r h = h

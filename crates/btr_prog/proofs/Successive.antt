@@ -8,6 +8,7 @@ module _ {H : Type 0} (Agreed : H → Type 0) where
   tells_first First a b c h g e = (omega (arith, h, g, e), omega (arith, g, e))
   tells_first Any a b c h g e = e
 
+  -- what calls in a row read can be told from any of them to the last
   tells_last : (sure : Sure) (a b c : Seen H) → b.held ≡ a.held → a.faults ≤ b.faults → b.faults ≤ c.faults → CanTell Agreed sure a c → CanTell Agreed sure b c
   tells_last First a b c same h g e = (omega (arith, h, g, e), e.1)
   tells_last Any a b c same h g e = subst Agreed (sym same) e

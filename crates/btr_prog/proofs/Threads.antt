@@ -10,17 +10,20 @@ module _ {W F : Type 0} where
   after_same ms (Ok a) k k' h = ap (prepend ms) (h a)
   after_same ms (Err f) k k' h = refl
 
+  -- of one want: treating the steps of what follows it
   given_thread : {S A T St R : Type 0} (body : St → S → Run W F T (Result St R)) (done : St → A → R) (st : St) (x : Result (List ℕ) F)
       (g : List ℕ → Run W F T R) (h : List ℕ → Run W F S A) → ((bytes : List ℕ) → g bytes ≡ thread_run body done st (h bytes).marks (h bytes).ending)
       → given x g ≡ thread_run body done st (given x h).marks (given x h).ending
   given_thread body done st (Ok bytes) g h e = e bytes
   given_thread body done st (Err f) g h e = refl
 
+  -- on by the state or to the early end: a program has the run that is said for each state
   go_same : {T St R : Type 0} (B : BlockMap W F) (g : St → Prog W F T R) (h : St → Run W F T R) → ((st : St) → exec B (g st) ≡ h st)
       → (x : Result St R) → exec B (go_on g x) ≡ go_on_run h x
   go_same B g h e (Ok st) = e st
   go_same B g h e (Err r) = refl
 
+  -- treating a program's steps is treating those of its run
   pub exec-thread : {S A T St R : Type 0} (B : BlockMap W F) (body : St → S → Prog W F T (Result St R)) (done : St → A → R) (st : St)
       (p : Prog W F S A) → exec B (thread body done st p) ≡ thread_run (λ st s. exec B (body st s)) done st (exec B p).marks (exec B p).ending
   exec-thread B body done st (Return a) = refl

@@ -15,19 +15,23 @@ pub wants_of-marks : {W : Type 0} (S : Type 0) (ws : List W) → wants_of {S = S
 wants_of-marks S [] = refl
 wants_of-marks S (w ∷ ws) = ap (λ x. w ∷ x) (wants_of-marks S ws)
 
+-- among some wants there are no steps
 pub steps_of-marks : {W : Type 0} (S : Type 0) (ws : List W) → steps_of {S = S} (want_marks ws) ≡ []
 steps_of-marks S [] = refl
 steps_of-marks S (w ∷ ws) = steps_of-marks S ws
 
+-- the marks of wants behind wants are those of the first and then of the others
 pub want_marks-append : {W S : Type 0} (vs ws : List W) → want_marks {S = S} (vs ++ ws) ≡ want_marks vs ++ want_marks ws
 want_marks-append [] ws = refl
 want_marks-append (v ∷ vs) ws = ap (λ x. Wants v ∷ x) (want_marks-append vs ws)
 
 module _ {W F S : Type 0} where
+  -- a mark before a run and what follows it is one more mark of the run
   first_then : {A C : Type 0} (m : Mark W S) (ms : List (Mark W S)) (e : Result A F) (k : A → Run W F S C) → first m (after ms e k) ≡ after (m ∷ ms) e k
   first_then m ms (Ok a) k = refl
   first_then m ms (Err f) k = refl
 
+  -- the run of one trying program after another is one run after another
   pub tried-then : {A C : Type 0} (B : BlockMap W F) (p : Trying W F S A) (k : A → Trying W F S C) → tried B (try_then p k)
       ≡ and_then (tried B p) (λ a. tried B (k a))
   tried-then B (Done a) k = refl
@@ -38,11 +42,13 @@ module _ {W F S : Type 0} where
       let r = tried B p in
       ap (first (Does s)) (tried-then B p k) ∙ first_then (Does s) r.marks r.ending (λ a. tried B (k a))
 
+  -- no fault ends a run of a trying program
   pub tried_ends : {A : Type 0} (B : BlockMap W F) (p : Trying W F S A) → IsOk (tried B p).ending
   tried_ends B (Done a) = refl
   tried_ends B (Try w k) = tried_ends B (k (B w))
   tried_ends B (Act s p) = tried_ends B p
 
+  -- a trying program's run hangs on the fates of its own wants alone
   pub only_tried : {A : Type 0} (B C : BlockMap W F) (p : Trying W F S A) → Each (λ w. B w ≡ C w) (wants_of (tried B p).marks) → tried B p ≡ tried C p
   only_tried B C (Done a) h = refl
   only_tried B C (Try w k) h = ap (first (Wants w)) (only_tried B C (k (B w)) h.1 ∙ ap (λ x. tried C (k x)) h.0)
@@ -52,12 +58,14 @@ module _ {W F S : Type 0} where
   abbrev handed : {A : Type 0} → Run W F S A → Run W F S (Result A F)
   handed r = run r.marks (Ok r.ending)
 
+  -- of one want: what follows it, attempted, has its own run and hands on its ending
   given_handed : {A : Type 0} (B : BlockMap W F) (x : Result (List ℕ) F) (k : List ℕ → Prog W F S A)
       → ((b : List ℕ) → tried B (attempt (k b)) ≡ handed (exec B (k b))) → tried B (by_fate x (λ b. attempt (k b)) (λ f. Err f))
       ≡ handed (given x (λ b. exec B (k b)))
   given_handed B (Ok b) k h = h b
   given_handed B (Err f) k h = refl
 
+  -- an attempted program has its own run, and how that ends is the value
   pub tried-attempt : {A : Type 0} (B : BlockMap W F) (p : Prog W F S A) → tried B (attempt p) ≡ handed (exec B p)
   tried-attempt B (Return a) = refl
   tried-attempt B (Stop f) = refl
@@ -69,12 +77,14 @@ module _ {W F S T : Type 0} where
   abbrev collected : {A : Type 0} → Run W F T A → Run W F S (RunOutcome F T A)
   collected r = run (want_marks (wants_of r.marks)) (Ok (outcome_of r))
 
+  -- of one want: what follows it, gathered, has its wants and hands on its steps
   given_collected : {A : Type 0} (B : BlockMap W F) (x : Result (List ℕ) F) (k : List ℕ → Prog W F T A)
       → ((b : List ℕ) → tried B (gathered (k b)) ≡ collected (exec B (k b))) → tried B (by_fate x (λ b. gathered (k b)) (λ f. outcome [] (Err f)))
       ≡ collected (given x (λ b. exec B (k b)))
   given_collected B (Ok b) k h = h b
   given_collected B (Err f) k h = refl
 
+  -- of a program whose steps are gathered only the wants are there; its steps and ending are the value
   pub tried-gathered : {A : Type 0} (B : BlockMap W F) (p : Prog W F T A) → tried B (gathered p) ≡ collected (exec B p)
   tried-gathered B (Return a) = refl
   tried-gathered B (Stop f) = refl
@@ -87,6 +97,7 @@ module _ {W F S T : Type 0} where
       ∙ ap (λ ms. run ms (Ok (outcome (t ∷ steps_of r.marks) r.ending))) (append-nil (want_marks (wants_of r.marks)))
 
 module _ {W F S U : Type 0} (Is : U → W → Type 0) (part : S → ℕ → Option S) where
+  -- a want that came to bytes or a fault, and what came then
   pub try_came : {A : Type 0} (seen : List W) (B : BlockMap W F) (w : W) (k : Result (List ℕ) F → Trying W F S A) (done : List S)
       (ans : Result A (Halt F U)) → Follows Is part (seen ++ (w ∷ [])) (tried B (k (B w))) done ans → Follows Is part seen (tried B (Try w k)) done ans
   try_came seen B w k done ans h = follows_behind Is part seen (Wants w ∷ []) (tried B (k (B w))) done ans h
@@ -97,6 +108,7 @@ module _ {W F S U : Type 0} (Is : U → W → Type 0) (part : S → ℕ → Opti
   same_place own P ms e e' done b =
       record { before = b.before; behind = b.behind; left = b.left; place = b.place; steps = b.steps; leaves = b.leaves; holds = b.holds }
 
+  -- what is answered of a run is answered of it with its ending handed on
   follows_handed : {A : Type 0} (seen : List W) (r : Run W F S A) (done : List S) (ans : Result A (Halt F U)) → Follows Is part seen r done ans
       → Follows Is part seen (handed r) done (attempted ans)
   follows_handed seen r done (Ok a) h = (h.0, ap Ok h.1)
@@ -104,6 +116,7 @@ module _ {W F S U : Type 0} (Is : U → W → Type 0) (part : S → ℕ → Opti
   follows_handed seen r done (Err (Unread u)) h = same_place _ _ r.marks r.ending (Ok r.ending) done h
   follows_handed seen r done (Err Broke) h = same_place _ _ r.marks r.ending (Ok r.ending) done h
 
+  -- what is answered of a program is answered of attempting it
   pub follows_attempt : {A : Type 0} (seen : List W) (B : BlockMap W F) (p : Prog W F S A) (done : List S) (ans : Result A (Halt F U))
       → Follows Is part seen (exec B p) done ans → Follows Is part seen (tried B (attempt p)) done (attempted ans)
   follows_attempt seen B p done ans h = subst (λ r. Follows Is part seen r done (attempted ans)) (sym (tried-attempt B p))
@@ -124,6 +137,7 @@ module _ {W F S U : Type 0} (Is : U → W → Type 0) (part : S → ℕ → Opti
       holds = subst P (sym (wants_of-marks S (wants_of b.before))) b.holds;
     }
 
+    -- what is answered of a run is answered of its wants, with its steps handed on
     follows_collected : {A : Type 0} (seen : List W) (r : Run W F T A) (done : List T) (ans : Result A (Halt F U)) → Follows Is own seen r done ans
         → Follows Is part seen (collected r) [] (gathered_by done ans)
     follows_collected seen r done (Ok a) h = (
@@ -139,6 +153,7 @@ module _ {W F S U : Type 0} (Is : U → W → Type 0) (part : S → ℕ → Opti
     follows_collected seen r done (Err (Unread u)) h = no_steps_before _ _ _ r done h
     follows_collected seen r done (Err Broke) h = no_steps_before own part _ r done h
 
+    -- what is answered of a program is answered of it where its steps are gathered and none is done
     pub follows_gathered : {A : Type 0} (seen : List W) (B : BlockMap W F) (p : Prog W F T A) (done : List T) (ans : Result A (Halt F U))
         → Follows Is own seen (exec B p) done ans → Follows Is part seen (tried B (gathered p)) [] (gathered_by done ans)
     follows_gathered seen B p done ans h = subst (λ r. Follows Is part seen r [] (gathered_by done ans)) (sym (tried-gathered B p))

@@ -19,13 +19,16 @@ use Rattle.btr_prog_example.specs.Listing.{items, catalogue, shown, next, treat,
 use Rattle.btr_prog_example.specs.Answers.{halt_of, PutsRows}
 use Rattle.btr_prog_example.proofs.Shows.{puts_stop}
 
+-- a step for each page
 abbrev pub does : List ℕ → List (Mark Want ℕ)
 does [] = []
 does (page ∷ pages) = Does page ∷ does pages
 
+-- the result of a listing is the last page that was shown
 abbrev pub fin : ℕ → Unit {0} → ℕ
 fin last u = last
 
+-- a run of showing a page, after the last one
 abbrev pub Goings : (ℕ → Want → Result (List ℕ) ℕ) → ℕ → ℕ → Run Want ℕ Row (Result ℕ ℕ) → Type 0
 Goings Bs last page b = GoesTo Bs (treat last page) b
 
@@ -33,6 +36,7 @@ Goings Bs last page b = GoesTo Bs (treat last page) b
 abbrev pub Left : (ℕ → Want → Result (List ℕ) ℕ) → List ℕ → ℕ → Run Want ℕ Row ℕ → Type 0
 Left Bs pages last = ThreadsTo (Goings Bs) fin last (does pages) (Ok tt)
 
+-- a run of the listing of a catalogue
 abbrev pub Whole : (ℕ → Want → Result (List ℕ) ℕ) → ℕ → Run Want ℕ Row ℕ → Type 0
 Whole Bs a = GoesTo Bs (listing a)
 
@@ -44,6 +48,7 @@ pub record Far (Bs : ℕ → Want → Result (List ℕ) ℕ) (a : ℕ) (pages : 
   pub sofar : SoFar (Whole Bs a) (Left Bs pages last) seen done
 
 module _ (Bs : ℕ → Want → Result (List ℕ) ℕ) (a : ℕ) where
+  -- the run of a catalogue's pages does each page and wants nothing
   goes_items : (pages : List ℕ) → GoesTo Bs (items pages) (run (does pages) (Ok tt))
   goes_items [] = refl
   goes_items (page ∷ pages) = (run (does pages) (Ok tt), refl, goes_items pages)
@@ -64,6 +69,7 @@ module _ (Bs : ℕ → Want → Result (List ℕ) ℕ) (a : ℕ) where
       }
 
   module _ (page : ℕ) (pages : List ℕ) (last : ℕ) (old now new : List Row) (f : Far Bs a (page ∷ pages) last old now) where
+    -- rows that were put behind those put so far stand behind the old ones
     rows_then : (more : List Row) → new ≡ now ++ more → new ≡ old ++ (f.done ++ more)
     rows_then more e = e ∙ (ap (λ x. x ++ more) f.rows ∙ append_assoc old f.done more)
 
@@ -123,16 +129,20 @@ module _ (Bs : ℕ → Want → Result (List ℕ) ℕ) (a : ℕ) where
       subst (λ (x : List ℕ). Far Bs a x last old now) e f
 
   module _ (xs : List ℕ) (i last : ℕ) (old now new : List Row) (h : i < length xs) (f : Far Bs a (drop i xs) last old now) where
+    -- the page at the index was shown: the listing goes on behind it
     pub loop_more : (more : Bool) → more ≡ true → PutsRows Bs (shown (get_or xs i 0)) now new (Ok more) → Far Bs a (drop (i + 1) xs) (get_or xs i 0) old new
     loop_more true e p = far_more (get_or xs i 0) (drop (i + 1) xs) last old now new (at_page xs i last old now h f) p
     loop_more false e p = cc
 
+    -- the page at the index is empty, which ends the listing with the last
     pub loop_early : (more : Bool) → more ≡ false → PutsRows Bs (shown (get_or xs i 0)) now new (Ok more) → PutsRows Bs (listing a) old new (Ok last)
     loop_early true e p = cc
     loop_early false e p = far_early (get_or xs i 0) (drop (i + 1) xs) last old now new (at_page xs i last old now h f) p
 
+    -- the page at the index stops the listing
     pub loop_stops : (stop : Stop) → PutsRows Bs (shown (get_or xs i 0)) now new (Err stop) → PutsRows Bs (listing a) old new (Err stop)
     loop_stops stop p = far_stops (get_or xs i 0) (drop (i + 1) xs) last old now new (at_page xs i last old now h f) stop p
 
+  -- the index is past the last page: the listing is whole
   pub loop_all : (xs : List ℕ) (i last : ℕ) (old now : List Row) → length xs ≤ i → Far Bs a (drop i xs) last old now → PutsRows Bs (listing a) old now (Ok last)
   loop_all xs i last old now h f = far_all last old now (subst (λ (x : List ℕ). Far Bs a x last old now) (drop_all i xs h) f)

@@ -21,10 +21,12 @@ has (Page (suc zero)) = Ok (97 ∷ (98 ∷ []))
 has (Page (suc (suc zero))) = Ok (99 ∷ [])
 has (Page (suc (suc (suc a)))) = Ok []
 
+-- where page 2 is lost, the rows of page 1 are put and the listing ends with the fault 2
 stops_at_two : exec lacks (listing 0) ≡ run (Wants (Catalogue 0) ∷
     (Wants (Page 1) ∷ (Does (Bytes (97 ∷ (98 ∷ []))) ∷ (Does End ∷ (Wants (Page 2) ∷ []))))) (Err 2)
 stops_at_two = refl
 
+-- where page 3 is empty, the rows of pages 1 and 2 are put and the listing ends with page 2
 ends_at_three : exec has (listing 0) ≡ run (Wants (Catalogue 0) ∷
     (Wants (Page 1) ∷ (Does (Bytes (97 ∷ (98 ∷ []))) ∷ (Does End ∷ (Wants (Page 2) ∷ (Does (Bytes (99 ∷ [])) ∷ (Does End ∷ (Wants (Page 3) ∷ [])))))))) (Ok 2)
 ends_at_three = refl

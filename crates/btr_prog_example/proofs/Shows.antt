@@ -22,6 +22,7 @@ pub none_of : (xs : List ℕ) → (length xs == 0) ≡ true → xs ≡ []
 none_of [] e = refl
 none_of (x ∷ xs) e = let no : ⊥ = grind (arith, nat_tests) in absurd no
 
+-- a list whose length is not 0 is not empty
 pub some_of : (xs : List ℕ) → (length xs == 0) ≡ false → xs ≡ [] → ⊥
 some_of [] e f = cc
 some_of (x ∷ xs) e f = cc
@@ -40,6 +41,7 @@ module _ (Bs : ℕ → Want → Result (List ℕ) ℕ) where
   goes_stop w k Sink h = absurd h
   goes_stop w k Memory h = goes_nowhere Bs IsTold part [] 0 (Need w k)
 
+  -- a want that stops a call leaves the rows as they were
   pub puts_stop : {A : Type 0} (w : Want) (k : List ℕ → Prog Want ℕ Row A) (old : List Row) (stop : Stop) → Misses Bs w stop
       → PutsRows Bs (Need w k) old old (Err stop)
   puts_stop w k old stop h = ([], sym (append-nil old), goes_stop w k stop h)
@@ -64,9 +66,11 @@ page_none bytes old e Bs = (
       (run [] (Ok false), refl, (refl, refl)),
 )
 
+-- what comes behind the bytes of a page: its end, and that it has some
 abbrev ended : Prog Want ℕ Row Bool
 ended = Emit End (Return true)
 
+-- a page whose bytes and end were put was shown
 pub page_all : (bytes : List ℕ) (old mid new : List Row) → (bytes ≡ [] → ⊥) → mid ≡ old ++ (Bytes bytes ∷ []) → new ≡ mid ++ (End ∷ [])
     → PutsPage bytes old new (Ok true)
 page_all [] old mid new some e f Bs = absurd (some refl)
@@ -77,6 +81,7 @@ page_all (b ∷ bs) old mid new some e f Bs = (
       (goes_step Bs IsTold part [] End (Return true) [] (Ok true) (run [] (Ok true), refl, (refl, refl))),
 )
 
+-- a page was broken off by the sink between its bytes and its end
 pub page_bytes : (bytes : List ℕ) (old mid new : List Row) → (bytes ≡ [] → ⊥) → mid ≡ old ++ (Bytes bytes ∷ []) → new ≡ mid → PutsPage bytes old new (Err Sink)
 page_bytes [] old mid new some e f Bs = absurd (some refl)
 page_bytes (b ∷ bs) old mid new some e f Bs = (
@@ -86,6 +91,7 @@ page_bytes (b ∷ bs) old mid new some e f Bs = (
   goes_step Bs IsTold part [] (Bytes (b ∷ bs)) ended [] (Err Broke) (goes_nowhere Bs IsTold part [] 0 ended),
 )
 
+-- a page was broken off by the sink in its bytes, with none or a first part of them put
 pub page_part : (bytes : List ℕ) (old new : List Row) → (bytes ≡ [] → ⊥) → (new ≡ old) ⊎ ((n : ℕ) × (new ≡ old ++ (Bytes (take n bytes) ∷ [])))
     → PutsPage bytes old new (Err Sink)
 page_part bytes old new some (inl g) Bs = ([], g ∙ sym (append-nil old), goes_nowhere Bs IsTold part [] 0 (rows bytes))

@@ -20,6 +20,7 @@ use Rattle.btr_refs.specs.RefKey.{ref_cmp, same_ref}
 use Rattle.btr_refs.specs.Counts.{CountsLaw, RefCounts, HasCounts, count_in, sum_of, is_met, counted, counted_all, found_at}
 use Rattle.btr_refs.specs.declared.counted.Counted.{Counted}
 
+-- references are ordered totally, field by field
 pub ref_total : IsTotalOrder ref_cmp
 ref_total = then_total (on_total (λ key. key.addr) nat_cmp_total)
     (then_total (on_total (λ key. key.kind) nat_cmp_total) (then_total (on_total (λ key. key.root) nat_cmp_total)
@@ -44,9 +45,11 @@ is_eq-Equal Less e = absurd (false≢true e)
 is_eq-Equal Equal e = refl
 is_eq-Equal Greater e = absurd (false≢true e)
 
+-- references that the test says are the same are one
 pub same_is : (a b : RefKey) → same_ref a b ≡ true → a ≡ b
 same_is a b e = ref_exact a b (is_eq-Equal (ref_cmp a b) e)
 
+-- whether two references are the same doesn't hang on their order
 pub same_swaps : (a b : RefKey) → same_ref a b ≡ same_ref b a
 same_swaps a b = (eq_by_cmp_equiv ref_total).symm a b
 
@@ -87,6 +90,7 @@ HasCounts-more refs old new key count total is total-is more one =
     none true = refl
     none false = refl
 
+    -- with one more reference, by whether it is the one that is looked up
     by : (b : Bool) → same_ref key one ≡ b → same_ref one key ≡ same_ref key one
         → cond b (Some total) (found_at old one) ≡ cond (is_met refs one || (same_ref one key || false))
         (Some (sum_of refs one + cond (same_ref one key) count 0)) None
@@ -110,6 +114,7 @@ pub insert-get : (entries : List (RefKey × ℕ)) (key : RefKey) (count : ℕ) (
 insert-get [] key count one = refl
 insert-get (entry ∷ entries) key count one = by (ref_cmp key entry.0) refl (insert-get entries key count one)
   where
+    -- another entry at the front, by whether it is the one that is looked up
     apart : (b : Bool) → same_ref one entry.0 ≡ b → ref_cmp key entry.0 ≡ Greater
         → cond b (Some entry.1) (cond (same_ref one key) (Some count) (lookup (is_at (ref_cmp one)) entries))
         ≡ cond (same_ref one key) (Some count) (cond b (Some entry.1) (lookup (is_at (ref_cmp one)) entries))
@@ -117,6 +122,7 @@ insert-get (entry ∷ entries) key count one = by (ref_cmp key entry.0) refl (in
         sym (ap (λ b. cond b (Some count) (Some entry.1)) (same_swaps one key ∙ ap (same_ref key) (same_is one entry.0 is) ∙ ap is_eq above))
     apart false is above = refl
 
+    -- the entry at the front, by how the key compares with its own
     by : (r : Ordering) → ref_cmp key entry.0 ≡ r
         → lookup (is_at (ref_cmp one)) (insert_entry ref_cmp entries key count) ≡ cond (same_ref one key) (Some count) (lookup (is_at (ref_cmp one)) entries)
         → lookup (is_at (ref_cmp one)) (match_ordering r ((key, count) ∷ entry ∷ entries) ((entry.0, count) ∷ entries)
@@ -144,6 +150,7 @@ one_more false true found before k c n is same none =
     ap (λ o. Some (unwrap_or o 0 + n)) is ∙ ap Some here
 one_more false false found before k c n is same none = is
 
+-- once some more are counted, one that is met among them has that much more, and another what it had
 pub found-more : (counts : RefCounts) (refs : List Counted) (one : RefKey)
     → found_at (counted_all counts refs) one ≡ cond (is_met refs one) (Some (count_in counts one + sum_of refs one)) (found_at counts one)
 found-more counts [] one = refl
@@ -166,5 +173,6 @@ counts_on done (ref ∷ refs) counts is =
     subst (λ l. HasCounts l (counted_all (counted counts ref) refs)) (append_assoc done (ref ∷ []) refs)
     (counts_on (done ++ ref ∷ []) refs (counted counts ref) more)
 
+-- counting some references gives the map that has just these, each as often as it is met
 pub counts_law : CountsLaw
 counts_law refs = counts_on [] refs [] (λ one. refl)

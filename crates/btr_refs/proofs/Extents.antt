@@ -11,12 +11,15 @@ use Rattle.btr_findings.specs.declared.finding.Finding.{Finding}
 use Rattle.btr_refs.specs.Misusing.{extents_at, misused, misused_at}
 use Rattle.btr_refs.specs.declared.used.Used.{Used}
 
+-- the address of an extent
 abbrev pub addr_in : Extent → ℕ
 addr_in extent = extent.addr
 
+-- an extent is at an address
 abbrev is_at : ℕ → Extent → Bool
 is_at addr extent = extent.addr == addr
 
+-- where no extent has an address, none is at it
 none_at : (addr : ℕ) (extents : List Extent) → ((k : ℕ) (d : Extent) → k < length extents → (get_or extents k d).addr ≡ addr → ⊥) → extents_at extents addr ≡ []
 none_at addr [] apart = refl
 none_at addr (one ∷ more) apart =
@@ -30,9 +33,11 @@ parted_at addr n extents =
 
 -- and all of them stand between two places
 module _ (addr : ℕ) (extents : List Extent) (first count : ℕ) where
+  -- the extents from the first place on
   abbrev pub from_first : List Extent
   from_first = take (length extents - first) (drop first extents)
 
+  -- from the first extent that isn't below an address up to the first above it stand all that are at it
   pub all_within : first ≤ length extents
       → IsPartitionPoint (λ (one : Extent). ltb (addr_in one) addr ≡ true) (λ (one : Extent). ltb (addr_in one) addr ≡ false) extents first
       → count ≤ length from_first
@@ -52,6 +57,7 @@ module _ (addr : ℕ) (extents : List Extent) (first count : ℕ) where
       ∙ sym (parted_at addr count from_first) ∙ ap (λ l. extents_at l addr) same
       ∙ ap (λ l. l ++ extents_at (drop first extents) addr) (sym begin) ∙ sym (parted_at addr first extents)
 
+-- one of those at an address is there where one of all is
 any_at : (addr : ℕ) (extents : List Extent) → list_any (is_at addr) (extents_at extents addr) ≡ list_any (is_at addr) extents
 any_at addr [] = refl
 any_at addr (one ∷ more) = by (eqb one.addr addr) refl (any_at addr more)
@@ -69,9 +75,11 @@ swapped : (x y : ℕ) → eqb x y ≡ eqb y x
 swapped x y = grind (arith, nat_tests)
 
 module _ (nodesize addr : ℕ) (what : Used) where
+  -- what is wrong with some extents by a use of what is at the address
   abbrev pub wrong : List Extent → List Finding
   wrong extents = flat_map (misused_at nodesize addr what) extents
 
+  -- by a use of what is at an address, only extents there are wrong
   wrong_at : (extents : List Extent) → wrong extents ≡ wrong (extents_at extents addr)
   wrong_at [] = refl
   wrong_at (one ∷ more) = by (eqb one.addr addr) refl (wrong_at more)

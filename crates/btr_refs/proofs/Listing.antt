@@ -27,6 +27,7 @@ pub unmet_behind : (one : RefKey) (refs : List Counted) → AllByRecursion (λ y
 unmet_behind one [] all = refl
 unmet_behind one (other ∷ refs) all = ap (λ r. is_eq r || is_met refs one) all.0 ∙ unmet_behind one refs all.1
 
+-- the first of references in order, each once, isn't met among the others
 pub behind : (one : Counted) (refs : List Counted) → Ascends (one ∷ refs) → is_met refs one.key ≡ false
 behind one refs ascends = unmet_behind one.key refs (sorted_head ref_cmp one.key (keys_of (entries_of refs)) ascends)
 
@@ -38,6 +39,7 @@ own_counts (ref ∷ refs) ascends one =
     ∙ ap (λ n. cond (same_ref one ref.key || is_met refs one) (Some n) None)
     (sym (sum_by-cons (λ (other : Counted). cond (same_ref one other.key) other.count 0) ref refs))
   where
+    -- with one more reference in front, by whether it is the one that is looked up
     by : (b : Bool) → same_ref one ref.key ≡ b → found_at (entries_of refs) one ≡ count_of refs one
         → cond b (Some ref.count) (found_at (entries_of refs) one) ≡ cond (b || is_met refs one) (Some (cond b ref.count 0 + sum_of refs one)) None
     by true is rest =
@@ -46,6 +48,7 @@ own_counts (ref ∷ refs) ascends one =
         ap Some all
     by false is rest = rest ∙ ap (λ n. cond (is_met refs one) (Some n) None) (sym (zero-add (sum_of refs one)))
 
+-- references in order, each once, are what counting them gives
 pub own_map : (refs : List Counted) → Ascends refs → entries_of refs ≡ counted_all [] refs
 own_map refs ascends = counts_are refs (entries_of refs) (is_ordered (entries_of refs) ascends) (own_counts refs ascends)
 
@@ -58,9 +61,11 @@ shuffled xs ys same =
 abbrev key_in : Counted → RefKey
 key_in one = one.key
 
+-- the references in a list, without their counts
 abbrev pub keys_in : List Counted → List RefKey
 keys_in refs = keys_of (entries_of refs)
 
+-- the references in a list's map are those in the list
 keys_are : (refs : List Counted) → keys_in refs ≡ map key_in refs
 keys_are [] = refl
 keys_are (one ∷ refs) = ap (λ l. one.key ∷ l) (keys_are refs)
@@ -68,9 +73,11 @@ keys_are (one ∷ refs) = ap (λ l. one.key ∷ l) (keys_are refs)
 length_keys : (refs : List Counted) → length (keys_in refs) ≡ length refs
 length_keys refs = ap length (keys_are refs) ∙ length-map refs key_in
 
+-- the reference at a place of a list
 key_at : (refs : List Counted) (k : ℕ) (d : Counted) → k < length refs → get_or (keys_in refs) k d.key ≡ (get_or refs k d).key
 key_at refs k d lt = ap (λ l. get_or l k d.key) (keys_are refs) ∙ get_or-map key_in refs k d d.key lt
 
+-- a reference to nothing, met 0 times
 abbrev pub none : Counted
 none = record { key = record { addr = 0; kind = 0; root = 0; objectid = 0; offset = 0 }; count = 0 }
 
@@ -97,6 +104,7 @@ below_at refs ascends i j d lt in_range =
     ∙ ap (ref_cmp (get_or (keys_in refs) i d.key)) (sym (key_at refs j d in_range))
     ∙ Less-from_sorted ref_cmp (keys_in refs) i j d.key ascends lt (omega (arith, in_range, length_keys refs))
 
+-- a reference that stands at no place of a list has no entry in its map
 no_key : (refs : List Counted) (key : RefKey) → ((k : ℕ) (d : Counted) → k < length refs → same_ref key (get_or refs k d).key ≡ false)
     → found_at (entries_of refs) key ≡ None
 no_key [] key apart = refl
@@ -105,6 +113,7 @@ no_key (one ∷ refs) key apart = ap (λ b. cond b (Some one.count) (found_at (e
 
 -- what a binary search finds
 module _ (refs : List Counted) (key : RefKey) (ascends : Ascends refs) where
+  -- references in order, compared with one, are first below it, then the same, then above
   rises : IsNonDecreasingBy (λ (one : Counted). ordering_index (ref_cmp one.key key)) refs
   rises = searchable_from_sorted ref_total key_in refs key (λ k d from to. ap is_lt
       (back (get_or refs k d).key (get_or refs (k + 1) d).key (below_at refs ascends k (k + 1) d (omega arith) to)))
@@ -112,6 +121,7 @@ module _ (refs : List Counted) (key : RefKey) (ascends : Ascends refs) where
       back : (a b : RefKey) → ref_cmp a b ≡ Less → ref_cmp b a ≡ Greater
       back a b less = ref_total.antisymm b a ∙ ap ordering_reverse less
 
+  -- where a search found only a place between those below a reference and those above it, the reference has no entry
   pub searched : (at : ℕ) → (IsNonDecreasingBy (λ (one : Counted). ordering_index (ref_cmp one.key key)) refs
       → IsPartitionPoint (λ (one : Counted). ref_cmp one.key key ≡ Less) (λ (one : Counted). ref_cmp one.key key ≡ Greater) refs at)
       → found_at (entries_of refs) key ≡ None
@@ -125,12 +135,14 @@ module _ (refs : List Counted) (key : RefKey) (ascends : Ascends refs) where
 abbrev pub weight : ℕ → Counted → ℕ
 weight addr one = cond (one.key.addr == addr) one.count 0
 
+-- how often the extent at an address is referred to is the sum of the references to it
 pub total_of : (addr : ℕ) (refs : List Counted) → total_at (entries_of refs) addr ≡ sum_by (weight addr) refs
 total_of addr [] = refl
 total_of addr (one ∷ refs) =
     sum_by-cons (λ (entry : RefKey × ℕ). cond (entry.0.addr == addr) entry.1 0) (one.key, one.count) (entries_of refs)
     ∙ ap (λ n. weight addr one + n) (total_of addr refs) ∙ sym (sum_by-cons (weight addr) one refs)
 
+-- where no reference is to an address, their sum for it is 0
 no_weight : (addr : ℕ) (refs : List Counted) → ((k : ℕ) (d : Counted) → k < length refs → (get_or refs k d).key.addr ≡ addr → ⊥) → sum_by (weight addr) refs ≡ 0
 no_weight addr [] apart = refl
 no_weight addr (one ∷ refs) apart =
@@ -138,11 +150,13 @@ no_weight addr (one ∷ refs) apart =
     ∙ ap (λ b. cond b one.count 0 + sum_by (weight addr) refs) (ne_eqb one.key.addr addr (apart zero one (omega arith)))
     ∙ zero-add (sum_by (weight addr) refs) ∙ no_weight addr refs (λ k d lt. apart (suc k) d (omega (arith, lt)))
 
+-- where two orders one after another say less, the first doesn't say greater
 addr_first : (r s : Ordering) → ordering_then r s ≡ Less → is_gt r ≡ false
 addr_first Less s e = refl
 addr_first Equal s e = refl
 addr_first Greater s e = absurd (true≢false (ap is_gt e))
 
+-- the address that a reference refers to
 abbrev pub addr_of : Counted → ℕ
 addr_of one = one.key.addr
 
@@ -158,9 +172,11 @@ addresses_rise refs ascends i j d le in_range = by (cases_lt i j)
 
 -- what stands between two places has all the weight
 module _ (addr : ℕ) (refs : List Counted) (first count : ℕ) where
+  -- the references from the first place on
   abbrev pub from_first : List Counted
   from_first = take (length refs - first) (drop first refs)
 
+  -- from the first reference that isn't below an address up to the first above it, those to it sum up as in the whole list
   pub all_within : first ≤ length refs → IsPartitionPoint (λ (one : Counted). ltb (addr_of one) addr ≡ true)
       (λ (one : Counted). ltb (addr_of one) addr ≡ false) refs first
       → count ≤ length from_first

@@ -22,16 +22,19 @@ both : (a b : Bool) → T a → T b → T (a && b)
 both true b p q = q
 both false b p q = absurd p
 
+-- a reference that compares as less with all of a map's is below all of them
 below : (key : RefKey) (counts : RefCounts) → AllByRecursion (λ y. ref_cmp key y ≡ Less) (keys_of counts) → T (below_all ref_cmp key counts)
 below key [] all = tt
 below key (entry ∷ counts) all =
     both (is_lt (ref_cmp key entry.0)) (below_all ref_cmp key counts) (subst (λ r. T (is_lt r)) (sym all.0) tt) (below key counts all.1)
 
+-- a map whose references ascend, each once, is in order
 pub is_ordered : (counts : RefCounts) → IsStrictlySortedBy ref_cmp (keys_of counts) → IsOrdered counts
 is_ordered [] sorted = tt
 is_ordered (entry ∷ counts) sorted = both (below_all ref_cmp entry.0 counts) (is_sorted ref_cmp counts)
     (below entry.0 counts (sorted_head ref_cmp entry.0 (keys_of counts) sorted)) (is_ordered counts (sorted_tail ref_cmp entry.0 (keys_of counts) sorted))
 
+-- putting an entry into a map is the same by either of its names
 same_put : (counts : RefCounts) (key : RefKey) (count : ℕ) → put ref_cmp key count counts ≡ insert_entry ref_cmp counts key count
 same_put [] key count = refl
 same_put (entry ∷ counts) key count = by (ref_cmp key entry.0) refl (same_put counts key count)
@@ -42,16 +45,19 @@ same_put (entry ∷ counts) key count = by (ref_cmp key entry.0) refl (same_put 
     by Equal is rest = cc
     by Greater is rest = cc
 
+-- a map in order stays so, whatever references are counted
 pub ordered_more : (counts : RefCounts) (refs : List Counted) → IsOrdered counts → IsOrdered (counted_all counts refs)
 ordered_more counts [] ordered = ordered
 ordered_more counts (one ∷ refs) ordered =
     let sum = count_in counts one.key + one.count in
     ordered_more (counted counts one) refs (subst IsOrdered (same_put counts one.key sum) (is_sorted-put ref_cmp ref_total one.key sum counts ordered))
 
+-- looking a reference up in a map is the same by either of its names
 same_find : (counts : RefCounts) (one : RefKey) → find ref_cmp one counts ≡ found_at counts one
 same_find [] one = refl
 same_find (entry ∷ counts) one = ap (λ o. cond (same_ref one entry.0) (Some entry.1) o) (same_find counts one)
 
+-- maps in order in which each reference has the same count, or none, are the same
 pub same_map : (a b : RefCounts) → IsOrdered a → IsOrdered b → ((one : RefKey) → found_at a one ≡ found_at b one) → a ≡ b
 same_map a b in_a in_b same = same_entries ref_cmp ref_total ref_exact a b in_a in_b (λ one. same_find a one ∙ same one ∙ sym (same_find b one))
 

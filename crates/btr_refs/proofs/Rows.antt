@@ -40,12 +40,15 @@ any_alike p q (x ∷ xs) same =
 
 -- a reference at a place is met there alone
 module _ (key : RefKey) where
+  -- how much a reference of a list counts for the one
   abbrev weight : Counted → ℕ
   weight other = cond (same_ref key other.key) other.count 0
 
+  -- a reference that is met so many times counts so much for itself, and nothing for another
   sum_times : (t : ℕ) (other : RefKey) → sum_of (replicate t (once other)) key ≡ t * cond (same_ref key other) 1 0
   sum_times t other = sum_by-replicate weight t (once other)
 
+  -- a reference that isn't in the list is met 0 times, whatever the numbers beside it
   unmet_times : (refs : List Counted) (times : List ℕ) → is_met refs key ≡ false → sum_of (met_times refs times) key ≡ 0
   unmet_times [] times unmet = refl
   unmet_times (ref ∷ refs) [] unmet = refl
@@ -60,6 +63,7 @@ module _ (key : RefKey) where
           let all = sum_by-append weight (replicate t (once ref.key)) (met_times refs times) in
           omega (arith, here, later, all)
 
+-- a reference that isn't met in a list stands at no place of it
 not_first : (ref : Counted) (refs : List Counted) (i : ℕ) (d : Counted) → is_met refs ref.key ≡ false → i < length refs
     → same_ref (get_or refs i d).key ref.key ≡ false
 not_first ref [] i d unmet lt = absurd (omega (arith, lt))
@@ -72,6 +76,7 @@ not_first ref (one ∷ refs) i d unmet lt = by (same_ref ref.key one.key) refl u
     by false is none rest zero lt = same_swaps one.key ref.key ∙ is
     by false is none rest (suc i) lt = rest i none (omega (arith, lt))
 
+-- a reference of a list in order, each once, is met as often as its count says
 sum_at : (refs : List Counted) (i : ℕ) (d : Counted) → Ascends refs → i < length refs → sum_of refs (get_or refs i d).key ≡ (get_or refs i d).count
 sum_at [] i d ascends lt = absurd (omega (arith, lt))
 sum_at (ref ∷ refs) zero d ascends lt =
@@ -85,6 +90,7 @@ sum_at (ref ∷ refs) (suc i) d ascends lt =
     let rest = sum_at refs i d (sorted_tail ref_cmp ref.key (keys_of (entries_of refs)) ascends) in_rest in
     omega (arith, here, rest)
 
+-- a reference of a list in order, each once, is met as often as the number beside it says
 times_at : (refs : List Counted) (times : List ℕ) (i : ℕ) (d : Counted) → Ascends refs → length times ≡ length refs → i < length refs
     → sum_of (met_times refs times) (get_or refs i d).key ≡ get_or times i 0
 times_at [] times i d ascends long lt = absurd (omega (arith, lt))
@@ -112,6 +118,7 @@ listed_count others more key none =
     by true met = zero-add (sum_of more key)
     by false unmet = sym (unmet-zero more key unmet)
 
+-- a reference at a place of a list is met in it
 met_at : (refs : List Counted) (i : ℕ) (d : Counted) → i < length refs → is_met refs (get_or refs i d).key ≡ true
 met_at [] i d lt = absurd (omega (arith, lt))
 met_at (ref ∷ refs) zero d lt = ap (λ b. b || is_met refs ref.key) (same_itself ref.key)
@@ -122,6 +129,7 @@ met_at (ref ∷ refs) (suc i) d lt =
     or_true true = refl
     or_true false = refl
 
+-- a reference in the list is none of the others, where none of these is in the list
 no_other : (found : RefKey → Option ℕ) (others : RefCounts) (key : RefKey) (n : ℕ) → All (λ other. found other ≡ None) (keys_of others) → found key ≡ Some n
     → found_at others key ≡ None
 no_other found [] key n apart is = refl
@@ -132,6 +140,7 @@ no_other found (entry ∷ others) key n apart is = by (same_ref key entry.0) ref
         ∙ ap is_some (apart zero entry.0 (omega arith))))
     by false same rest = rest
 
+-- the reference of an entry of a map in order is found with that entry's count
 other_at : (others : RefCounts) (i : ℕ) (d : RefKey × ℕ) → IsOrdered others → i < length others
     → found_at others (get_or others i d).0 ≡ Some (get_or others i d).1
 other_at [] i d ordered lt = absurd (omega (arith, lt))
@@ -150,6 +159,7 @@ other_at (entry ∷ others) (suc i) d ordered lt =
     less Equal p = absurd p
     less Greater p = absurd p
 
+    -- entries behind one have other references
     later : (es : RefCounts) (i : ℕ) (d : RefKey × ℕ) → T (below_all ref_cmp entry.0 es) → i < length es → same_ref (get_or es i d).0 entry.0 ≡ false
     later [] i d p lt = absurd (omega (arith, lt))
     later (e ∷ es) zero d p lt =
@@ -158,14 +168,17 @@ other_at (entry ∷ others) (suc i) d ordered lt =
 
 -- tests of the references of maps and lists
 module _ (p : RefKey → Bool) where
+  -- a test holds of a reference in a list's map where it holds of one in the list
   any_entries : (refs : List Counted) → list_any p (keys_of (entries_of refs)) ≡ list_any (λ (ref : Counted). p ref.key) refs
   any_entries [] = refl
   any_entries (ref ∷ refs) = ap (λ b. p ref.key || b) (any_entries refs)
 
+  -- a test holds of a reference in a map where it holds of that of an entry
   any_keys : (counts : RefCounts) → list_any p (keys_of counts) ≡ list_any (λ (entry : RefKey × ℕ). p entry.0) counts
   any_keys [] = refl
   any_keys (entry ∷ counts) = ap (λ b. p entry.0 || b) (any_keys counts)
 
+  -- with one more entry, a test holds of its reference or of one that was there
   keys_insert : (counts : RefCounts) (key : RefKey) (n : ℕ) → list_any p (keys_of (insert_entry ref_cmp counts key n)) ≡ (p key || list_any p (keys_of counts))
   keys_insert [] key n = refl
   keys_insert (entry ∷ counts) key n = by (ref_cmp key entry.0) refl (keys_insert counts key n)
@@ -188,6 +201,7 @@ module _ (p : RefKey → Bool) where
           ∙ ap (λ k. p k || (p entry.0 || list_any p (keys_of counts))) (sym (ref_exact key entry.0 is))
       by Greater is rest = ap (λ b. p entry.0 || b) rest ∙ or_swap (p entry.0) (p key) (list_any p (keys_of counts))
 
+  -- with more references counted, a test holds of one of them or of one that was there
   keys_any : (counts : RefCounts) (more : List Counted) → list_any p (keys_of (counted_all counts more))
       ≡ (list_any (λ (ref : Counted). p ref.key) more || list_any p (keys_of counts))
   keys_any counts [] = refl
@@ -202,6 +216,7 @@ module _ (p : RefKey → Bool) where
       turned false true c = refl
       turned false false c = refl
 
+  -- a test holds of a reference, or of it met any number of times, where it holds of the reference
   any_once : (t : ℕ) (key : RefKey) → (list_any (λ (ref : Counted). p ref.key) (replicate t (once key)) || p key) ≡ p key
   any_once zero key = refl
   any_once (suc t) key = within (p key) (list_any (λ (ref : Counted). p ref.key) (replicate t (once key))) (any_once t key)
@@ -229,18 +244,22 @@ module _ (p : RefKey → Bool) where
       absorbed false true false d e f = f
       absorbed false false c d e f = refl
 
+-- what holds of all references of a map holds of the one at a place
 other_apart : (P : RefKey → Type 0) (others : RefCounts) → All P (keys_of others) → (i : ℕ) (d : RefKey × ℕ) → i < length others → P (get_or others i d).0
 other_apart P [] all i d lt = absurd (omega (arith, lt))
 other_apart P (entry ∷ others) all zero d lt = all zero entry.0 (omega arith)
 other_apart P (entry ∷ others) all (suc i) d lt = other_apart P others (λ k e in_range. all (suc k) e (omega (arith, in_range))) i d (omega (arith, lt))
 
 module _ (refs : List Counted) (times : List ℕ) (others : RefCounts) (are : AreTallied refs times others) where
+  -- the references as they are stored
   abbrev stored : RefCounts
   stored = entries_of refs
 
+  -- the references as they are counted
   abbrev forward : RefCounts
   forward = tallied refs times others
 
+  -- a reference is stored as often as it is met in the list
   stored_count : (key : RefKey) → count_in stored key ≡ sum_of refs key
   stored_count key = count-is refs stored (own_counts refs are.ascends) key
 

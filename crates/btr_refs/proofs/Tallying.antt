@@ -24,12 +24,15 @@ or_swap false false c = refl
 
 -- counted once more beside its place, one is met once more, in whatever order
 module _ (one : RefKey) where
+  -- how much a reference of a list counts for the one
   abbrev weight : Counted → ℕ
   weight other = cond (same_ref one other.key) other.count 0
 
+  -- a reference of a list is the one
   abbrev is_same : Counted → Bool
   is_same other = same_ref one other.key
 
+  -- with one more beside its place, a reference is met, and so are those that were
   met_set : (refs : List Counted) (times : List ℕ) (i : ℕ) (d : Counted) (n : ℕ) → i < length refs → length times ≡ length refs
       → is_met (met_times refs (set times i (suc (get_or times i n)))) one ≡ (same_ref one (get_or refs i d).key || is_met (met_times refs times) one)
   met_set [] times i d n lt long = absurd (omega (arith, lt))
@@ -42,6 +45,7 @@ module _ (one : RefKey) where
       ∙ or_swap (is_met here one) (same_ref one (get_or refs i d).key) (is_met (met_times refs times) one)
       ∙ ap (λ b. same_ref one (get_or refs i d).key || b) (sym (list_any-append is_same here (met_times refs times)))
 
+  -- with one more beside its place, a reference is met once more, and others as often as before
   sum_set : (refs : List Counted) (times : List ℕ) (i : ℕ) (d : Counted) (n : ℕ) → i < length refs → length times ≡ length refs
       → sum_of (met_times refs (set times i (suc (get_or times i n)))) one ≡ cond (same_ref one (get_or refs i d).key) 1 0 + sum_of (met_times refs times) one
   sum_set [] times i d n lt long = absurd (omega (arith, lt))
@@ -71,6 +75,7 @@ pub counted_apart : (refs : List Counted) (times : List ℕ) (others : RefCounts
     → tallied refs times (counted others (once key)) ≡ counted (tallied refs times others) (once key)
 counted_apart refs times others key ordered = counted_last others (met_times refs times) (once key) ordered
 
+-- a reference that isn't in the list may be counted among the others
 pub tallied_apart : (refs : List Counted) (times : List ℕ) (others : RefCounts) (key : RefKey) → AreTallied refs times others
     → found_at (entries_of refs) key ≡ None
     → AreTallied refs times (counted others (once key))
@@ -87,6 +92,7 @@ none_times [] n = refl
 none_times (ref ∷ refs) zero = refl
 none_times (ref ∷ refs) (suc n) = none_times refs n
 
+-- where the number beside its place is one more than it was, a reference is counted once more
 pub counted_next : (refs : List Counted) (times : List ℕ) (others : RefCounts) (i : ℕ) (d : Counted) (n next : ℕ) (key : RefKey) → IsOrdered others
     → i < length refs
     → length times ≡ length refs → (get_or refs i d).key ≡ key → next ≡ get_or times i n + 1
@@ -96,6 +102,7 @@ counted_next refs times others i d n next key ordered lt long is more =
     ap (λ m. tallied refs (set times i m) others) (more ∙ one_more) ∙ counted_there refs times others i d n ordered lt long
     ∙ ap (λ k. counted (tallied refs times others) (once k)) is
 
+-- where a reference that isn't in the list was counted among the others, or memory was wanting, all are tallied still
 pub tallied_either : (refs : List Counted) (times : List ℕ) (others new : RefCounts) (key : RefKey) (r : Result (Unit {0}) Memory)
     → AreTallied refs times others
     → found_at (entries_of refs) key ≡ None → OnOk r (new ≡ counted others (once key)) → OnErr r (new ≡ others) → AreTallied refs times new

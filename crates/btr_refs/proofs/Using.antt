@@ -9,6 +9,7 @@ use Rattle.btr_node.specs.Block.{KeyPointer}
 use Rattle.btr_refs.specs.declared.forward.Origin.{Origin}
 use Rattle.btr_refs.specs.Forward.{Use, Tally, block_use, tree_link, child_use, tally_with}
 
+-- a pointer to nothing
 none : KeyPointer
 none = record { key = record { objectid = 0; kind = 0; offset = 0 }; addr = 0; generation = 0 }
 

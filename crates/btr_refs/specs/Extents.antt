@@ -83,17 +83,17 @@ abbrev pub stored_in : List TreeItem → List Counted
 stored_in items = flat_map (λ (item : TreeItem). refs_in item.key item.body) items
 
 -- what is kept of some items: how long a node is, how often each reference is stored, and the extents
-pub record Kept : Type 0 where
+pub record KeptExtents : Type 0 where
   pub nodesize : ℕ
   pub refs : RefCounts
   pub extents : List Extent
 
 -- what is kept before the first item
-abbrev pub nothing_kept : ℕ → Kept
+abbrev pub nothing_kept : ℕ → KeptExtents
 nothing_kept nodesize = record { nodesize = nodesize; refs = []; extents = [] }
 
 -- what is kept with what one more item says
-abbrev pub kept_with : Kept → TreeItem → Kept
+abbrev pub kept_with : KeptExtents → TreeItem → KeptExtents
 kept_with kept item = record {
   nodesize = kept.nodesize;
   refs = counted_all kept.refs (refs_in item.key item.body);
@@ -101,14 +101,14 @@ kept_with kept item = record {
 }
 
 -- what is kept with one more mark of a tour: an item alone says something, and none whose key breaks the rules of its type
-abbrev pub stored_step : Kept → Mark → Kept
+abbrev pub stored_step : KeptExtents → Mark → KeptExtents
 stored_step kept (Block place block) = kept
 stored_step kept (Child addr place) = kept
 stored_step kept (Item item) = if key_fits item.key then kept_with kept item else kept
 stored_step kept (Left fault) = kept
 
 -- what some items say
-abbrev pub stored_of : ℕ → List TreeItem → Kept
+abbrev pub stored_of : ℕ → List TreeItem → KeptExtents
 stored_of nodesize items = record { nodesize = nodesize; refs = counted_all [] (stored_in items); extents = extents_in nodesize items }
 
 -- where the keys of all items keep the rules of their types, what is kept is what they say

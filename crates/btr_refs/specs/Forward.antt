@@ -21,7 +21,7 @@ use Rattle.btr_refs.specs.declared.forward.Origin.{Origin}
 use Rattle.btr_refs.specs.declared.used.Used.{Used}
 use Rattle.btr_refs.specs.declared.used.Used.TheVariants.{TreeBlock, Data}
 use Rattle.btr_refs.specs.Counts.{RefCounts, counted}
-use Rattle.btr_refs.specs.Extents.{Kept}
+use Rattle.btr_refs.specs.Extents.{KeptExtents}
 use Rattle.btr_refs.specs.Misusing.{misused_at, with_findings}
 use Rattle.btr_refs.specs.declared.counted.Counted.{Counted}
 use Rattle.btr_refs.specs.RefKey.{key_of}
@@ -105,7 +105,7 @@ abbrev pub met : Use → Counted
 met one = record { key = key_of one.addr one.link; count = 1 }
 
 -- what is wrong with the extents that are stored, by a use
-abbrev pub misused_by : Kept → Use → List Finding
+abbrev pub misused_by : KeptExtents → Use → List Finding
 misused_by stored one = flat_map (misused_at stored.nodesize one.addr one.what) stored.extents
 
 -- what is wrong with an extent, by all that uses it
@@ -122,7 +122,7 @@ abbrev pub no_uses : Uses
 no_uses = record { refs = []; misused = [] }
 
 -- what is kept with one more use, where these extents are stored
-abbrev pub with_use : Kept → Uses → Use → Uses
+abbrev pub with_use : KeptExtents → Uses → Use → Uses
 with_use stored uses one = record {
   refs = counted uses.refs (met one);
   misused = with_findings uses.misused (misused_by stored one);
@@ -130,11 +130,11 @@ with_use stored uses one = record {
 
 -- what is kept while uses are counted: what is stored, and what is kept of the uses
 pub record Tally : Type 0 where
-  pub stored : Kept
+  pub stored : KeptExtents
   pub uses : Uses
 
 -- what is kept before the first use, where these extents and references are stored
-abbrev pub nothing_counted : Kept → Tally
+abbrev pub nothing_counted : KeptExtents → Tally
 nothing_counted stored = record { stored = stored; uses = no_uses }
 
 -- what is kept with one more use

@@ -25,9 +25,9 @@ pub struct Stored {
 }
 
 impl Model for Stored {
-    ghost use Rattle.btr_refs.specs.Extents.{Kept};
+    ghost use Rattle.btr_refs.specs.Extents.{KeptExtents};
 
-    ghost Value = { Kept };
+    ghost Value = { KeptExtents };
 
     ghost view = { λ stored. record { nodesize = stored.nodesize; refs = stored.refs; extents = stored.extents.items } };
 }

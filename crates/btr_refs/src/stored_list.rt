@@ -16,9 +16,9 @@ pub struct StoredList {
 }
 
 impl Model for StoredList {
-    ghost use Rattle.btr_refs.specs.Extents.{Kept};
+    ghost use Rattle.btr_refs.specs.Extents.{KeptExtents};
 
-    ghost Value = { Kept };
+    ghost Value = { KeptExtents };
 
     ghost view = { λ list. record { nodesize = list.nodesize; refs = list.refs; extents = list.extents } };
 }

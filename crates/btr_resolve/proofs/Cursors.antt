@@ -35,6 +35,7 @@ abbrev fin : Met → Unit {0} → Unit {0}
 fin met u = u
 
 module _ (addr : ℕ) (tree : TreeRoot) (B : Map) (old new : Blocks) (scan scan' : Scan) (met : Met) where
+  -- the run of the owners that are still to come
   abbrev from : RunOf Owner (Unit {0})
   from = exec B (owners_of addr tree B old met scan)
 
@@ -43,6 +44,7 @@ module _ (addr : ℕ) (tree : TreeRoot) (B : Map) (old new : Blocks) (scan scan'
       → IsTurn addr tree Is B old new scan scan' met met (Err f)
   turn_fault Is f n seen on = turn_halts B (item_met addr tree) fin Is no_part seen met (left_of B old scan) (halt_of f) (n seen on)
 
+  -- where the scan has no item more, there is no owner more
   pub turn_end : (Is : UnreadBlock → Want → Type 0) → IsNextOn Is B old new scan scan' (Ok None)
       → IsTurn addr tree Is B old new scan scan' met met (Ok turn.End)
   turn_end Is n seen on = turn_ends B (item_met addr tree) fin Is no_part seen met (left_of B old scan) (n seen on)
@@ -51,27 +53,32 @@ module _ (addr : ℕ) (tree : TreeRoot) (B : Map) (old new : Blocks) (scan scan'
     abbrev item : TreeItem
     item = item_of found
 
+    -- what the item comes to by a program, and then the owners behind it
     abbrev after_item : Program Owner (Result Met (Unit {0})) → RunOf Owner (Unit {0})
     after_item p = and_then (exec B p) (go_on_run (λ m. exec B (owners_of addr tree B new m scan')))
 
+    -- what is still to come are the wants before the item, what it comes to, and the owners behind it
     item_turned : (seen : List Want) (g : Gives B seen old new scan scan' found) (p : Program Owner (Result Met (Unit {0})))
         → item_met addr tree met item ≡ p → from ≡ prepend (want_marks g.past) (after_item p)
     item_turned seen g p is =
         turned B (item_met addr tree) fin (left_of B old scan) (left_of B new scan') item g.past met g.is
         ∙ ap (λ q. prepend (want_marks g.past) (after_item q)) is
 
+    -- an item that gives no owner is passed
     pub turn_other : (Is : UnreadBlock → Want → Type 0) → Meets addr tree met item met' (Ok None)
         → IsNextOn Is B old new scan scan' (Ok (Some found)) → IsTurn addr tree Is B old new scan scan' met met' (Ok turn.Other)
     turn_other Is is n seen on =
         let g = n seen on in
         record { past = g.past; is = item_turned seen g (Return (Ok met')) is; on = g.on; held = g.held }
 
+    -- an item that gives an owner gives the next one
     pub turn_owner : (Is : UnreadBlock → Want → Type 0) (owner : Owner) → Meets addr tree met item met' (Ok (Some owner))
         → IsNextOn Is B old new scan scan' (Ok (Some found)) → IsTurn addr tree Is B old new scan scan' met met' (Ok (turn.Owner owner))
     turn_owner Is owner is n seen on =
         let g = n seen on in
         record { past = g.past; is = item_turned seen g (Emit owner (Return (Ok met'))) is; on = g.on; held = g.held }
 
+    -- an item that makes its leaf malformed ends the owners with that fault
     pub turn_broken : (Is : UnreadBlock → Want → Type 0) (f : TreeFault) → Meets addr tree met item met' (Err f)
         → IsNextOn Is B old new scan scan' (Ok (Some found)) → IsTurn addr tree Is B old new scan scan' met met' (Err f)
     turn_broken Is f is n seen on =
@@ -86,6 +93,7 @@ module _ (addr : ℕ) (tree : TreeRoot) (B : Map) (start : Blocks) (scan0 : Scan
   abbrev pub Gone : Blocks → Scan → Met → Type 0
   Gone store scan met = (seen : List Want) → IsOn scan0.lo scan0.hi B seen scan0.place → PassesItem addr tree B seen start store scan0 scan met0 met
 
+  -- at the beginning no item was passed
   pub gone_none : Gone start scan0 met0
   gone_none seen on = record {
     past = [];
@@ -96,10 +104,12 @@ module _ (addr : ℕ) (tree : TreeRoot) (B : Map) (start : Blocks) (scan0 : Scan
 
   module _ (Was Is : UnreadBlock → Want → Type 0) (store : Blocks) (scan : Scan) (met : Met) (lo : scan.lo ≡ scan0.lo)
       (hi : scan.hi ≡ scan0.hi) (gone : Gone store scan met) where
+    -- a scan that goes on by the first one's ends does so by its own
     on_here : (seen : List Want) → IsOn scan0.lo scan0.hi B seen scan.place → IsOn scan.lo scan.hi B seen scan.place
     on_here seen on = subst (λ (k : Key). IsOn k scan.hi B seen scan.place) (sym lo)
         (subst (λ (k : Key). IsOn scan0.lo k B seen scan.place) (sym hi) on)
 
+    -- a scan that goes on from there does so by the first one's ends, behind all wants
     on_there : (seen xs ys : List Want) (scan' : Scan) → IsOn scan.lo scan.hi B ((seen ++ xs) ++ ys) scan'.place
         → IsOn scan0.lo scan0.hi B (seen ++ (xs ++ ys)) scan'.place
     on_there seen xs ys scan' on =
@@ -107,11 +117,13 @@ module _ (addr : ℕ) (tree : TreeRoot) (B : Map) (start : Blocks) (scan0 : Scan
         (subst (λ (k : Key). IsOn k scan0.hi B ((seen ++ xs) ++ ys) scan'.place) lo
         (subst (λ (k : Key). IsOn scan.lo k B ((seen ++ xs) ++ ys) scan'.place) hi on))
 
+    -- the leaf in hand there is among all wants, however they are split
     held_there : (seen xs ys : List Want) (new : Blocks) (scan' : Scan) → HoldsLeaf B ((seen ++ xs) ++ ys) new scan'
         → HoldsLeaf B (seen ++ (xs ++ ys)) new scan'
     held_there seen xs ys new scan' h = subst (λ (z : List Want). HoldsLeaf B z new scan') (append_assoc seen xs ys) h
 
     module _ (new : Blocks) (scan' : Scan) (met' : Met) where
+      -- behind items that were passed, one more was passed
       pub gone_more : IsTurn addr tree Was B store new scan scan' met met' (Ok turn.Other) → Gone new scan' met'
       gone_more t seen on =
           let x = gone seen on in
@@ -123,6 +135,7 @@ module _ (addr : ℕ) (tree : TreeRoot) (B : Map) (start : Blocks) (scan0 : Scan
             held = λ h. held_there seen x.past y.past new scan' (y.held (x.held h));
           }
 
+      -- an owner behind items that were passed is the next owner of the scan that began before them
       pub gone_owner : (owner : Owner) → IsTurn addr tree Was B store new scan scan' met met' (Ok (turn.Owner owner))
           → IsFound addr tree Is B start new scan0 scan' met0 met' (Ok (Some owner))
       gone_owner owner t seen on =
@@ -136,6 +149,7 @@ module _ (addr : ℕ) (tree : TreeRoot) (B : Map) (start : Blocks) (scan0 : Scan
             held = λ h. held_there seen x.past y.past new scan' (y.held (x.held h));
           }
 
+      -- where no owner is behind the items that were passed, the scan that began before them has none
       pub gone_end : ((u : UnreadBlock) (w : Want) → Was u w → Is u w)
           → IsTurn addr tree Was B store new scan scan' met met' (Ok turn.End) → IsFound addr tree Is B start new scan0 scan' met0 met' (Ok None)
       gone_end weaker t seen on =
@@ -144,6 +158,7 @@ module _ (addr : ℕ) (tree : TreeRoot) (B : Map) (start : Blocks) (scan0 : Scan
           behind_wants Is seen x.past (exec B (owners_of addr tree B start met0 scan0)) no_part rest [] (Ok tt) x.is
           (t (seen ++ x.past) (on_here (seen ++ x.past) x.on))
 
+      -- a fault behind items that were passed is one of the scan that began before them
       pub gone_fault : (f : TreeFault) → ((u : UnreadBlock) (w : Want) → Was u w → Is u w)
           → IsTurn addr tree Was B store new scan scan' met met' (Err f) → IsFound addr tree Is B start new scan0 scan' met0 met' (Err f)
       gone_fault f weaker t seen on =
@@ -156,12 +171,15 @@ module _ (addr : ℕ) (tree : TreeRoot) (B : Map) (start : Blocks) (scan0 : Scan
 
 module _ (B : Map) (Is : UnreadBlock → Want → Type 0) (old new : Blocks) (owners : Owners) (scan scan' : Scan) (met' : Met)
     (is : scan ≡ scan_of owners.rest) where
+  -- an answer of the scan that the cursor goes on by
   abbrev Answer : Result (Option Owner) TreeFault → Scan → Type 0
   Answer result s = IsFound owners.addr owners.tree Is B old new s scan' owners.met met' result
 
+  -- the owners that are left to the cursor are those that its scan has still to give
   same_left : exec B (owners_left B owners) ≡ exec B (owners_of owners.addr owners.tree B old owners.met (scan_of owners.rest))
   same_left = ap (λ p. exec B (owners_in owners.addr owners.tree owners.met p)) (rest_is B old owners.rest)
 
+  -- the next owner of the scan is the next one of the cursor, which goes on where the scan rests
   pub next_owner : (rest : Rest) (owner : Owner) → scan'.lo ≡ scan.lo → scan'.hi ≡ scan.hi → Rests new scan' rest → Answer (Ok (Some owner)) scan
       → (seen : List Want) → AreOn B seen owners
       → LeadsOn B seen owners (record { addr = owners.addr; tree = owners.tree; met = met'; rest = rest }) owner
@@ -181,15 +199,18 @@ module _ (B : Map) (Is : UnreadBlock → Want → Type 0) (old new : Blocks) (ow
         on = rests.on B (seen ++ g.past) (g.held tt) on';
       }
 
+  -- where the scan has no owner more, the cursor has none
   pub next_none : (owners' : Owners) → Answer (Ok None) scan → (seen : List Want) → AreOn B seen owners → NextOwnerBy Is B seen owners owners' (Ok None)
   next_none owners' found seen on =
       subst (λ (r : RunOf Owner (Unit {0})). Follows Is no_part seen r [] (Ok tt)) (sym same_left) (subst (Answer (Ok None)) is found seen on)
 
+  -- a fault of the scan is one of the cursor
   pub next_fault : (owners' : Owners) (f : TreeFault) → Answer (Err f) scan → (seen : List Want) → AreOn B seen owners
       → NextOwnerBy Is B seen owners owners' (Err f)
   next_fault owners' f found seen on =
       subst (λ (r : RunOf Owner (Unit {0})). Follows Is no_part seen r [] (Err (halt_of f))) (sym same_left) (subst (Answer (Err f)) is found seen on)
 
-pub next_nears : (rest0 : Rest) (scan scan' : Scan) (store : Blocks) (rest : Rest) → scan ≡ scan_of rest0
+-- where its scan came nearer to its end, so did the cursor
+pub next_rank_falls : (rest0 : Rest) (scan scan' : Scan) (store : Blocks) (rest : Rest) → scan ≡ scan_of rest0
     → Rests store scan' rest → rank_of scan' < rank_of scan → rank_left rest < rank_left rest0
-next_nears rest0 scan scan' store rest e r h = let f = ap rank_of e in omega (arith, h, r.rank, f)
+next_rank_falls rest0 scan scan' store rest e r h = let f = ap rank_of e in omega (arith, h, r.rank, f)

@@ -31,9 +31,11 @@ use Rattle.btr_resolve.proofs.Rans.{folded_ran, stop_folded}
 abbrev pub ids_step : List ℕ → TreeItem → Next (List ℕ) (List ℕ)
 ids_step ids item = Go (with_id ids item.key)
 
+-- the ids with that of an item, as the definition takes them
 abbrev ids_body : List ℕ → TreeItem → Lookup (Result (List ℕ) (List ℕ))
 ids_body ids item = bind (Return (with_id ids item.key)) (λ st. Return (Ok st))
 
+-- the ids of the subvolumes among some items are the fold of these items
 ids_as : (p : RangeProg) → each (λ ids (item : TreeItem). Return (with_id ids item.key)) [] p ≡ folded_over ids_step (λ ids. ids) [] p
 ids_as p =
     sym (bind-return (each (λ ids (item : TreeItem). Return (with_id ids item.key)) [] p))

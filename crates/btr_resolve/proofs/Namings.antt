@@ -21,16 +21,19 @@ use Rattle.btr_resolve.proofs.Upward.{Leads, leads_halt, leads_then, led_name, p
 
 -- the path of a name was looked up on the way from its directory
 module _ (owner : Owner) (count : ℕ) (name : Link) (below path : List ℕ) (is_below : below ≡ 47 ∷ name.name ++ []) (x y : World) where
+  -- the way up from a name's directory comes to the path of the name
   looked : (answer : Result Path TheStop) → Ran (quiet (led 512 owner.tree name.parent below)) x y answer
       → Ran (quiet (name_path owner.tree name)) x y answer
   looked answer h = subst (λ (p : Lookup Path). Ran (quiet p) x y answer) (ap (led 512 owner.tree name.parent) is_below ∙ led_name owner.tree name) h
 
+  -- the path of the name was looked up, and then the owner was told by it
   pub name_then : (is_found : Bool) (z : World) (r : Result ℕ TheStop)
       → Ran (quiet (led 512 owner.tree name.parent below)) x y (pathed path (Ok is_found))
       → Ran (path_told owner count (path_if is_found path)) y z r → Ran (name_told owner count name) x z r
   name_then is_found z r h g = look_then (name_path owner.tree name) (path_told owner count) x y (pathed path (Ok is_found)) z
       (path_if is_found path) r (looked (pathed path (Ok is_found)) h) (pathed_is path is_found) g
 
+  -- where the way up stopped, so did the telling of the name
   pub name_stop : (s : TheStop) → Ran (quiet (led 512 owner.tree name.parent below)) x y (Err s) → Ran (name_told owner count name) x y (Err s)
   name_stop s h = look_halt (name_path owner.tree name) (path_told owner count) x y (Err s) s (looked (Err s) h) refl
 
@@ -51,6 +54,7 @@ module _ (owner : Owner) (names : List Link) (at count : ℕ) (whole : Program L
       (subst (λ (ns : List Link). Ran (each_told owner count ns) y y (Ok count)) (sym (drop_of_length-le names over)) (ran_none y ready count))
 
   module _ (there : at < length names) where
+    -- the names that are left are the next one and those behind it
     here : Leads whole (each_told owner count (get_or names at some_name ∷ drop (suc at) names)) x y
     here = subst (λ (ns : List Link). Leads whole (each_told owner count ns) x y) (drop-cons names at some_name there) leads
 
@@ -63,6 +67,7 @@ module _ (owner : Owner) (names : List Link) (at count : ℕ) (whole : Program L
         (leads_then whole x y z (name_told owner count (get_or names at some_name))
         (λ n. each_told owner n (drop (suc at) names)) count' here (h some_name))
 
+    -- where the telling of a name stopped, the whole did
     pub names_stop : (s : TheStop) → ((d : Link) → Ran (name_told owner count (get_or names at d)) y z (Err s)) → Ran whole x z (Err s)
     names_stop s h = leads_halt whole x y z (name_told owner count (get_or names at some_name))
         (λ n. each_told owner n (drop (suc at) names)) s here (h some_name)
@@ -72,6 +77,7 @@ pub told_none : (owner : Owner) (count : ℕ) (names : List Link) → length nam
 told_none owner count [] none = refl
 told_none owner count (name ∷ names) none = let z : ⊥ = omega (arith, none) in absurd z
 
+-- an owner that has names is told by each of them
 pub told_some : (owner : Owner) (count : ℕ) (names : List Link) → (length names ≡ 0 → ⊥) → names_told owner count names ≡ each_told owner count names
 told_some owner count [] some = absurd (some refl)
 told_some owner count (name ∷ names) some = refl
@@ -84,6 +90,7 @@ module _ (s : Super) (addr : ℕ) (ids : List ℕ) (at count : ℕ) (whole : Pro
       (subst (λ (xs : List ℕ). Ran (subvolumes_told s addr count xs) y y (Ok count)) (sym (drop_of_length-le ids over)) (ran_none y ready count))
 
   module _ (id : ℕ) (there : at < length ids) (is : get_or ids at 0 ≡ id) where
+    -- the subvolumes that are left are that of the next id and those behind it
     ids_here : Leads whole (subvolumes_told s addr count (id ∷ drop (suc at) ids)) x y
     ids_here = subst (λ (xs : List ℕ). Leads whole (subvolumes_told s addr count xs) x y)
         (drop-cons ids at 0 there ∙ ap (λ n. n ∷ drop (suc at) ids) is) leads
@@ -96,5 +103,6 @@ module _ (s : Super) (addr : ℕ) (ids : List ℕ) (at count : ℕ) (whole : Pro
         subst (λ (n : ℕ). Leads whole (subvolumes_told s addr count' (drop n ids)) x z) next
         (leads_then whole x y z (subvolume_told s addr count id) (λ n. subvolumes_told s addr n (drop (suc at) ids)) count' ids_here h)
 
+    -- where the telling of a subvolume stopped, the whole did
     pub ids_stop : (t : TheStop) → Ran (subvolume_told s addr count id) y z (Err t) → Ran whole x z (Err t)
     ids_stop t h = leads_halt whole x y z (subvolume_told s addr count id) (λ n. subvolumes_told s addr n (drop (suc at) ids)) t ids_here h

@@ -26,9 +26,11 @@ use Rattle.btr_resolve.specs.declared.owner.Owner.{Owner}
 -- ---- an extent ends below 2^64
 
 module _ (offset : ℕ) (body : List ℕ) where
+  -- how many bytes of the file the extent in the body covers, if it isn't inline
   abbrev len : ℕ
   len = number_at 8 45 body
 
+  -- an extent whose place keeps its form ends below 2^64 in the file
   placed_fits : place_fits offset body ≡ true → offset + len < 2 ^ 64
   placed_fits h =
       let addr = number_at 8 21 body in
@@ -52,6 +54,7 @@ module _ (offset : ℕ) (body : List ℕ) where
   abbrev inline : Result Shape ItemFault
   inline = Ok (shape.Inline (length body - 21))
 
+  -- a shape of any type, if it isn't inline, ends below 2^64 in the file
   by_kind : (s : Shape) (a b c : Bool)
       → cond a inline (cond b (fields_if (place_fits offset body) regular)
       (cond c (fields_if (place_fits offset body) prealloc) (Err (record {})))) ≡ Ok s → FitsFile offset s
@@ -60,6 +63,7 @@ module _ (offset : ℕ) (body : List ℕ) where
   by_kind s false false true h = let f = of_fields (place_fits offset body) prealloc s h in subst (FitsFile offset) f.1 (placed_fits f.0)
   by_kind s false false false h = let z : ⊥ = cc in absurd z
 
+  -- the fields that stand in the body, with a shape
   abbrev of_shape : Shape → FileExtent
   of_shape s = record {
     generation = number_at 8 0 body;
@@ -69,6 +73,7 @@ module _ (offset : ℕ) (body : List ℕ) where
     shape = s;
   }
 
+  -- an extent that came of a body, if it isn't inline, ends below 2^64 in the file
   by_test : (fields : FileExtent) (b : Bool) → cond b (map_ok of_shape (shape_of offset body)) (Err (record {})) ≡ Ok fields
       → FitsFile offset fields.shape
   by_test fields true h =
@@ -77,6 +82,7 @@ module _ (offset : ℕ) (body : List ℕ) where
       subst (FitsFile offset) (ap (λ (x : FileExtent). x.shape) m.2) (by_kind m.0 (k == 0) (k == 1) (k == 2) m.1)
   by_test fields false h = let z : ⊥ = cc in absurd z
 
+  -- an extent that keeps its form, if it isn't inline, ends below 2^64 in the file
   pub extent_fits : (fields : FileExtent) → Ok fields ≡ file_extent_of offset body → FitsFile offset fields.shape
   extent_fits fields h = by_test fields (nat_le 21 (length body) && is_aligned offset) (sym h)
 
@@ -89,28 +95,35 @@ is_before : (end start : ℕ) → start < end → nat_le end start ≡ false
 is_before end start h = grind (arith, nat_tests)
 
 module _ (addr : ℕ) (tree : TreeRoot) (met : Met) (item : TreeItem) where
+  -- what an EXTENT_DATA comes to, by its form
   abbrev by_form : Result FileExtent ItemFault → Program Owner (Result Met (Unit {0}))
   by_form r = formed item r (extent_met addr tree met item)
 
+  -- an item of another type comes to nothing
   pub met_other : (item.key.kind ≡ 108 → ⊥) → item_met addr tree met item ≡ Return (Ok met)
   met_other other = ap (λ b. cond b (by_form (file_extent_of item.key.offset item.body)) (Return (Ok met))) (ne_eqb _ _ other)
 
+  -- an EXTENT_DATA comes to what its form says
   met_extent : item.key.kind ≡ 108 → (r : Result FileExtent ItemFault) → r ≡ file_extent_of item.key.offset item.body
       → item_met addr tree met item ≡ by_form r
   met_extent is r read = ap (λ b. cond b (by_form (file_extent_of item.key.offset item.body)) (Return (Ok met))) (eq-eqb _ _ is)
       ∙ ap by_form (sym read)
 
   module _ (is : item.key.kind ≡ 108) (fields : FileExtent) (read : Ok fields ≡ file_extent_of item.key.offset item.body) where
+    -- what was met once this extent is
     abbrev next : Met
     next = record { inode = item.key.objectid; end = end_of item.key.offset fields }
 
+    -- an owner, if the extent has the address at a position, and on
     abbrev by_position : Option ℕ → Program Owner (Result Met (Unit {0}))
     by_position position = owner_if tree item.key.objectid position next
 
+    -- an extent that begins before the end of the file's last one makes its leaf malformed
     pub met_late : item.key.offset < end_in met item.key.objectid → item_met addr tree met item ≡ Stop (fate.Malformed item.leaf)
     met_late late = met_extent is (Ok fields) read
         ∙ ap (λ b. cond b (by_position (position_in addr item.key.offset fields)) (Stop (fate.Malformed item.leaf))) (is_before _ _ late)
 
+    -- an extent in its order comes to the owner at the position by which it has the address, if it has it
     pub met_behind : end_in met item.key.objectid ≤ item.key.offset → (position : Option ℕ)
         → position ≡ position_in addr item.key.offset fields → item_met addr tree met item ≡ by_position position
     met_behind behind position found =

@@ -41,6 +41,7 @@ use Rattle.btr_volume.proofs.Onward.{behind_since, reads_on, same_self, same_the
 pub counts_then : {A C : Type 0} (a b c : CallAccount) (v : A) (r : Result C TheStop) → StopCounts a b (Ok v) → StopCounts b c r → StopCounts a c r
 counts_then a b c v r e h = subst (λ (x : CallAccount). StopCounts x c r) e h
 
+-- the text of some lines, and of more, is that of all of them
 pub whole-append : (a b : List Line) → whole (a ++ b) ≡ whole a ++ whole b
 whole-append a b = flat_map-append (λ (line : Line). line) a b
 
@@ -54,6 +55,7 @@ told_all layout a b reads Q f =
     record { calls = record { same = ap (λ (s : Seen). s.held) reads.same; later = reads.later; content = λ sure c. on_all layout Q f sure a.held } }
 
 module _ {A C : Type 0} (p : Program Line A) (k : A → Program Line C) (x y : World) where
+  -- one program was run to its value, and then what it goes on with
   pub ran_then : (z : World) (a : A) (r : Result C TheStop) → Ran p x y (Ok a) → Ran (k a) y z r → Ran (bind p k) x z r
   ran_then z a r h g =
       let is = unread_by x.vol.store.layout x.rack z.rack in
@@ -77,6 +79,7 @@ module _ {A C : Type 0} (p : Program Line A) (k : A → Program Line C) (x y : W
         calls = counts_then x.calls y.calls z.calls a r h.calls g.calls;
       }
 
+  -- where one program stopped, what it goes on with stopped with it
   pub ran_halt : (s : TheStop) → Ran p x y (Err s) → Ran (bind p k) x y (Err s)
   ran_halt s h =
       let is = unread_by x.vol.store.layout x.rack y.rack in
@@ -99,12 +102,14 @@ pub ran_passed : {A : Type 0} {p : Program Line A} {x y : World} {s : TheStop} (
     → Ran p x y (Err s) → Ran p x y r
 ran_passed {p = p} {x = x} {y = y} {s = s} r is h = stop_passed (λ q. Ran p x y q) r s is h
 
+-- a stop that is passed on is one beside a count too
 pub counted_passed : (count : ℕ) (r : Result (Unit {0}) TheStop) (s : TheStop) → IsErrAnd r (λ e. e ≡ s) → IsErrAnd (counted count r) (λ e. e ≡ s)
 counted_passed count (Ok u) s is = absurd is
 counted_passed count (Err e) s is = is
 
 -- nothing was done: that is the end of a program, or a stop that may come anywhere
 module _ {A : Type 0} (x : World) (ready : CanRead 4 x.rack x.vol) where
+  -- where nothing is done, a program that is at its end has run
   pub ran_none : (a : A) → Ran (Return a) x x (Ok a)
   ran_none a = record {
     reads = reads_none x.rack;
@@ -118,6 +123,7 @@ module _ {A : Type 0} (x : World) (ready : CanRead 4 x.rack x.vol) where
     calls = refl;
   }
 
+  -- where nothing is done, any program may have stopped for want of memory
   pub ran_memory : (p : Program Line A) → Ran p x x (Err stop.Memory)
   ran_memory p = record {
     reads = reads_none x.rack;
@@ -134,6 +140,7 @@ module _ {A : Type 0} (x : World) (ready : CanRead 4 x.rack x.vol) where
 
 -- a lookup
 module _ {A : Type 0} (p : Lookup A) (old new : Seen) (vol after : Volume) (text : Option (List ℕ)) (calls : CallAccount) where
+  -- what is told of a lookup is told of it as a program with lines
   quiet_told : (r : Result A TreeFault) → Looks vol.store.layout old new p r
       → Tells vol.store.layout old new (λ B. Follows (unread_by vol.store.layout old new) part [] (exec B (quiet p)) [] (answer_of r))
   quiet_told r looks =
@@ -141,6 +148,7 @@ module _ {A : Type 0} (p : Lookup A) (old new : Seen) (vol after : Volume) (text
       drawn vol.store.layout (λ B. Follows {S = ⊥} is no_part [] (exec B p) [] (answer_of r))
       (λ B. Follows is part [] (exec B (quiet p)) [] (answer_of r)) (λ B h. follows_quiet is part [] B p [] (answer_of r) h) looks
 
+  -- a lookup that came to a value has run
   pub ran_found : (a : A) → CanRead 4 old vol → Serves new after.store → OnlyReads old new → SameVolume vol after
       → Looks vol.store.layout old new p (Ok a) → Ran (quiet p) (world old vol text calls) (world new after text calls) (Ok a)
   ran_found a ready serves reads same looks = record {
@@ -154,6 +162,7 @@ module _ {A : Type 0} (p : Lookup A) (old new : Seen) (vol after : Volume) (text
     calls = refl;
   }
 
+  -- a lookup that came to a fault of a tree has run
   pub ran_fault : (f : TreeFault) → CanRead 4 old vol → Serves new after.store → OnlyReads old new → SameVolume vol after
       → HasCause {A = A} vol.store.layout old new (Err f) → Looks vol.store.layout old new p (Err f)
       → Ran (quiet p) (world old vol text calls) (world new after text calls) (Err (stop.Tree f))
@@ -191,6 +200,7 @@ stop_folded (Ok a) = Ok a
 stop_folded (Err (fold.Tree f)) = Err (stop.Tree f)
 stop_folded (Err (fold.Own memory)) = Err stop.Memory
 
+-- a lookup that was folded has run, also where memory was wanting
 pub folded_ran : {A : Type 0} (p : Lookup A) (old new : Seen) (vol after : Volume) (text : Option (List ℕ))
     (calls : CallAccount) (r : Result A (FoldFault Memory)) → CanRead 4 old vol → Serves new after.store → OnlyReads old new
     → SameVolume vol after → FoldCause vol.store.layout old new r
@@ -206,9 +216,11 @@ folded_ran p old new vol after text calls (Err (fold.Own memory)) ready serves r
 
 -- a lookup by its answer, and then a program by its value
 module _ {A C : Type 0} (p : Lookup A) (k : A → Program Line C) (x y : World) (result : Result A TheStop) where
+  -- a lookup ran to a value, and then the program went on by it
   pub look_then : (z : World) (a : A) (r : Result C TheStop) → Ran (quiet p) x y result → result ≡ Ok a → Ran (k a) y z r → Ran (looks p k) x z r
   look_then z a r h e g = ran_then (quiet p) k x y z a r (subst (λ (b : Result A TheStop). Ran (quiet p) x y b) e h) g
 
+  -- where a lookup stopped, the program stopped with it
   pub look_halt : (s : TheStop) → Ran (quiet p) x y result → result ≡ Err s → Ran (looks p k) x y (Err s)
   look_halt s h e = ran_halt (quiet p) k x y s (subst (λ (b : Result A TheStop). Ran (quiet p) x y b) e h)
 
@@ -217,19 +229,23 @@ broke_of : (e : SinkError) → stop_halt (stops_out e) ≡ Broke
 broke_of sink.Failed = refl
 broke_of sink.Memory = refl
 
+-- a refusal of the output needs no cause in the blocks
 cause_of : (A : Type 0) (layout : Layout) (a b : Seen) (e : SinkError) → ResolveStopCause {A = A} layout a b (Err (stops_out e))
 cause_of A layout a b sink.Failed = tt
 cause_of A layout a b sink.Memory = tt
 
+-- the account of the output after a refusal is the one after its stop
 counts_of : (A : Type 0) (a b : CallAccount) (e : SinkError) → Counts {T = Unit {0}} a b (Err e) → StopCounts {A = A} a b (Err (stops_out e))
 counts_of A a b sink.Failed h = h
 counts_of A a b sink.Memory h = h.1
 
+-- a line that was put is a text of one line
 adds_line : (old new : Option (List ℕ)) (line : Line) → Adds old new line → Adds old new (whole (line ∷ []))
 adds_line old new line h = subst (Adds old new) (sym (append-nil line)) h
 
 module _ {A : Type 0} (line : Line) (rack : Seen) (vol : Volume) (ready : CanRead 4 rack vol) (old new : Option (List ℕ))
     (calls calls' : CallAccount) where
+  -- a line was put, and the program was at its end
   pub ran_line : (v : A) → Adds old new line → calls' ≡ calls
       → Ran (Emit line (Return v)) (world rack vol old calls) (world rack vol new calls') (Ok v)
   ran_line v adds same =
@@ -246,6 +262,7 @@ module _ {A : Type 0} (line : Line) (rack : Seen) (vol : Volume) (ready : CanRea
         calls = same;
       }
 
+  -- a line was broken off as the output refused, and the program stopped there
   pub ran_broken : (p : Program Line A) (e : SinkError) → ((n : ℕ) × Adds old new (take n line))
       → Counts {T = Unit {0}} calls calls' (Err e) → Ran (Emit line p) (world rack vol old calls) (world rack vol new calls') (Err (stops_out e))
   ran_broken p e cut counts =
@@ -265,10 +282,12 @@ module _ {A : Type 0} (line : Line) (rack : Seen) (vol : Volume) (ready : CanRea
 
 -- where a test decides
 module _ {A : Type 0} (p q : Program Line A) (x y : World) (r : Result A TheStop) where
+  -- where the test holds, the first of two programs ran
   pub ran_if : (b : Bool) → b ≡ true → Ran p x y r → Ran (cond b p q) x y r
   ran_if true e h = h
   ran_if false e h = cc
 
+  -- where the test doesn't hold, the second of two programs ran
   pub ran_else : (b : Bool) → b ≡ false → Ran q x y r → Ran (cond b p q) x y r
   ran_else true e h = cc
   ran_else false e h = h

@@ -29,6 +29,7 @@ none_at : (o : Option (Bor Chunk)) (at : Option Chunk) → option_copied o ≡ a
 none_at None at e h = sym e
 none_at (Some chunk) at e h = cc
 
+-- where a chunk was found, the owners are those in the subvolumes
 some_at : (s : Super) (addr : ℕ) (o : Option (Bor Chunk)) (at : Option Chunk) → option_copied o ≡ at → is_some o ≡ true
     → resolved_in s addr at ≡ looks (subvolumes s) (all_told s addr)
 some_at s addr None at e h = cc
@@ -36,6 +37,7 @@ some_at s addr (Some chunk) at e h = ap (resolved_in s addr) (sym e)
 
 module _ (x : World) (ready : CanRead 4 x.rack x.vol) (addr : ℕ) (o : Option (Bor Chunk))
     (found : option_copied o ≡ chunk_at x.vol.store.layout.chunks addr) where
+  -- the whole answer, by the superblock and the chunks of the volume
   abbrev told : Program Line ℕ
   told = resolved x.vol.sup x.vol.store.layout.chunks addr
 
@@ -66,12 +68,15 @@ module _ (x : World) (ready : CanRead 4 x.rack x.vol) (addr : ℕ) (o : Option (
 
 -- all subvolumes were told, and then how many lines there are
 module _ (s : Super) (addr : ℕ) (ids : List ℕ) (first : ℕ) (none : first ≡ 0) (x y : World) where
+  -- the telling of the subvolumes begins with no line
   begun : (r : Result ℕ TheStop) → Ran (subvolumes_told s addr first ids) x y r → Ran (subvolumes_told s addr 0 ids) x y r
   begun r h = subst (λ n. Ran (subvolumes_told s addr n ids) x y r) none h
 
+  -- all subvolumes were told, and then the last line was
   pub all_then : (count : ℕ) (z : World) (r : Result ℕ TheStop) → Ran (subvolumes_told s addr first ids) x y (Ok count)
       → Ran (Emit (total_line count) (Return count)) y z r → Ran (all_told s addr ids) x z r
   all_then count z r h g = ran_then (subvolumes_told s addr 0 ids) (λ n. Emit (total_line n) (Return n)) x y z count r (begun (Ok count) h) g
 
+  -- where the telling of the subvolumes stopped, the whole did
   pub all_halt : (t : TheStop) → Ran (subvolumes_told s addr first ids) x y (Err t) → Ran (all_told s addr ids) x y (Err t)
   all_halt t h = ran_halt (subvolumes_told s addr 0 ids) (λ n. Emit (total_line n) (Return n)) x y t (begun (Err t) h)

@@ -87,9 +87,11 @@ module _ (count : ℕ) (cursor cursor' : Owners) (rack rack' : Seen) (vol vol' :
   abbrev layout : Layout
   layout = vol.store.layout
 
+  -- which want is the one that couldn't be read
   abbrev by : UnreadBlock → Want → Type 0
   by = unread_by layout rack rack'
 
+  -- the run of what is left to be told
   abbrev from : Map → RunOf Line ℕ
   from B = exec B (left_told B count cursor)
 
@@ -126,9 +128,11 @@ module _ (count : ℕ) (cursor cursor' : Owners) (rack rack' : Seen) (vol vol' :
   }
 
   module _ (owner : Owner) (next : TellsNext vol rack rack' cursor cursor' (Ok (Some owner))) (z : World) where
+    -- the run of the lines of the owner
     abbrev told : Map → RunOf Line ℕ
     told B = exec B (owner_told count owner)
 
+    -- the run of what is left to be told behind the owner
     abbrev rest : Map → ℕ → RunOf Line ℕ
     rest B n = exec B (left_told B n cursor')
 

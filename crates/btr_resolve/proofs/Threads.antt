@@ -15,13 +15,16 @@ use Rattle.btr_read.specs.declared.want.Want.{Want}
 use Rattle.btr_walk.specs.Reading.{Map, UnreadBlock}
 use Rattle.btr_volume.specs.Lookup.{Program}
 
+-- a run over wants, with such steps and such a value
 abbrev pub RunOf : Type 0 → Type 0 → Type 0
 RunOf T R = Run Want fate.Fault T R
 
 module _ {S T St R : Type 0} (B : Map) (body : St → S → Program T (Result St R)) (fin : St → Unit {0} → R) where
+  -- the run that treats the steps of a run, from a state on
   abbrev run_from : St → RunOf S (Unit {0}) → RunOf T R
   run_from st r = thread_run (λ st' s. exec B (body st' s)) fin st r.marks r.ending
 
+  -- wants before some steps are wants before what the steps are treated by
   run_past : (ws : List Want) (st : St) (r : RunOf S (Unit {0})) → run_from st (prepend (want_marks ws) r) ≡ prepend (want_marks ws) (run_from st r)
   run_past [] st r = refl
   run_past (w ∷ ws) st r = ap (first (Wants w)) (run_past ws st r)
@@ -42,6 +45,7 @@ module _ {S T St R : Type 0} (B : Map) (body : St → S → Program T (Result St
   abbrev Exec : St → S → RunOf T (Result St R) → Type 0
   Exec st s b = b ≡ exec B (body st s)
 
+  -- behind what one step is treated by, the others are treated
   some_after : (ms : List (Mark Want S)) (e : Result (Unit {0}) fate.Fault)
       → ((st : St) → ThreadsTo Exec fin st ms e (run_from st (run ms e)))
       → (marks : List (Mark Want T)) (x : Result (Result St R) fate.Fault)
@@ -50,6 +54,7 @@ module _ {S T St R : Type 0} (B : Map) (body : St → S → Program T (Result St
   some_after ms e h marks (Ok (Err y)) = (run [] (Ok y), refl, refl)
   some_after ms e h marks (Err f) = refl
 
+  -- the run treats the steps one after another
   some_run : (st : St) (ms : List (Mark Want S)) (e : Result (Unit {0}) fate.Fault) → ThreadsTo Exec fin st ms e (run_from st (run ms e))
   some_run st [] e = refl
   some_run st (Wants w ∷ ms) e = (run_from st (run ms e), refl, some_run st ms e)
@@ -65,6 +70,7 @@ module _ {S T St R : Type 0} (B : Map) (body : St → S → Program T (Result St
       let g = cursor_halts Exec fin (λ s r. (run_from s r, some_run s r.marks r.ending)) Is part seen st (exec B p) h f in
       subst (λ (q : RunOf T R). Follows Is part seen q [] (Err h)) (threads_exec B body fin st p g.0 g.1) g.2
 
+  -- where there is no step more, the run does nothing more and ends with the last state
   run_ends : (st : St) (ms : List (Mark Want S)) (e : Result (Unit {0}) fate.Fault) → [] ≡ steps_of ms → e ≡ Ok tt
       → ([] ≡ steps_of (run_from st (run ms e)).marks) × ((run_from st (run ms e)).ending ≡ Ok (fin st tt))
   run_ends st [] e n h = (
@@ -83,15 +89,19 @@ module _ {S T St R : Type 0} (B : Map) (body : St → S → Program T (Result St
 
 -- a program whose value is the next state
 module _ {S T St : Type 0} (B : Map) (treat : St → S → Program T St) where
+  -- a step's program, with its value as the next state
   abbrev pub body_of : St → S → Program T (Result St St)
   body_of st s = bind (treat st s) (λ st'. Return (Ok st'))
 
+  -- the last state is the value
   abbrev pub last_of : St → Unit {0} → St
   last_of st u = st
 
+  -- a run without marks that goes on with a state
   abbrev gone_on : St → RunOf T (Result St St)
   gone_on st = run [] (Ok (Ok st))
 
+  -- a run that goes on with its value, and then the rest, is that run and then the rest
   twice : (ms : List (Mark Want T)) (e : Result St fate.Fault) (k : St → RunOf T St) → and_then (after ms e gone_on) (go_on_run k) ≡ after ms e k
   twice ms (Ok a) k = ap (λ m. prepend m (k a)) (append-nil ms)
   twice ms (Err f) k = refl

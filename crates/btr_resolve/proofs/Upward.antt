@@ -27,9 +27,11 @@ quiet_bind (Need w g) k = ap (Need w) (fun_ext (λ bytes. quiet_bind (g bytes) k
 quiet_bind (Emit s p) k = absurd s
 
 module _ {A C : Type 0} (p : Lookup A) (k : A → Lookup C) (x y : World) where
+  -- one lookup was run to its value, and then the next one by it
   pub quiet_then : (z : World) (a : A) (r : Result C TheStop) → Ran (quiet p) x y (Ok a) → Ran (quiet (k a)) y z r → Ran (quiet (bind p k)) x z r
   quiet_then z a r h g = subst (λ (q : Program Line C). Ran q x z r) (sym (quiet_bind p k)) (ran_then (quiet p) (λ a. quiet (k a)) x y z a r h g)
 
+  -- where a lookup stopped, the next one by it stopped with it
   pub quiet_halt : (s : TheStop) → Ran (quiet p) x y (Err s) → Ran (quiet (bind p k)) x y (Err s)
   quiet_halt s h = subst (λ (q : Program Line C). Ran q x y (Err s)) (sym (quiet_bind p k)) (ran_halt (quiet p) (λ a. quiet (k a)) x y s h)
 
@@ -44,6 +46,7 @@ led_on n tree None = Return None
 led_on n tree (Some at) = led n tree at.0 at.1
 
 module _ (tree : TreeRoot) where
+  -- a path with another one behind it, as a lookup
   abbrev ended_by : List ℕ → Path → Lookup Path
   ended_by below path = Return (before below path)
 
@@ -58,6 +61,7 @@ module _ (tree : TreeRoot) where
   pub led_far : (dir : ℕ) (below : List ℕ) → (dir ≡ tree.dirid → ⊥) → led zero tree dir below ≡ Return None
   led_far dir below other = ap (λ b. bind (cond b (Return (Some [])) (Return None)) (ended_by below)) (ne_eqb _ _ other)
 
+  -- the path by the only name of a directory is what is left of the way from its parent
   one_step : (n : ℕ) (below : List ℕ) (name : Option Link)
       → bind (path_below (directory_path n tree) name) (ended_by below) ≡ led_on n tree (up below name)
   one_step n below None = refl
@@ -86,6 +90,7 @@ only_one [] name one at = let z : ⊥ = cc in absurd z
 only_one (first ∷ []) name one at = ap Some (at first)
 only_one (first ∷ (other ∷ more)) name one at = let z : ⊥ = omega (arith, one) in absurd z
 
+-- where there is not exactly one name, none is the only one
 pub not_only : (names : List Link) → (length names ≡ 1 → ⊥) → only names ≡ None
 not_only [] other = refl
 not_only (first ∷ []) other = absurd (other refl)
@@ -101,9 +106,11 @@ abbrev pub Leads : {A : Type 0} → Program Line A → Program Line A → World 
 Leads {A} whole rest x y = (z : World) (answer : Result A TheStop) → Ran rest y z answer → Ran whole x z answer
 
 module _ {A C : Type 0} (whole : Program Line C) (x y z : World) where
+  -- where a part was run to its value, the whole has come to what the part goes on with
   pub leads_then : (p : Program Line A) (k : A → Program Line C) (a : A) → Leads whole (bind p k) x y → Ran p y z (Ok a) → Leads whole (k a) x z
   leads_then p k a leads h = λ w answer g. leads w answer (ran_then p k y z w a answer h g)
 
+  -- where a part stopped, the whole stopped
   pub leads_halt : (p : Program Line A) (k : A → Program Line C) (s : TheStop) → Leads whole (bind p k) x y → Ran p y z (Err s)
       → Ran whole x z (Err s)
   leads_halt p k s leads h = leads z (Err s) (ran_halt p k y z s h)
@@ -111,28 +118,34 @@ module _ {A C : Type 0} (whole : Program Line C) (x y z : World) where
 -- the way up has come to a directory, so many steps below the top directory at most
 module _ (whole : Program Line Path) (tree : TreeRoot) (left dir : ℕ) (path : List ℕ) (x y : World)
     (leads : Leads whole (quiet (led left tree dir path)) x y) where
+  -- where the top directory is reached, the path is found
   pub climbed_top : CanRead 4 y.rack y.vol → dir ≡ tree.dirid → Ran whole x y (Ok (Some path))
   climbed_top ready is = leads y (Ok (Some path))
       (subst (λ (p : Lookup Path). Ran (quiet p) y y (Ok (Some path))) (sym (led_top tree left dir path is)) (ran_none y ready (Some path)))
 
+  -- where another directory is reached and no step is left, there is no path
   pub climbed_far : CanRead 4 y.rack y.vol → (dir ≡ tree.dirid → ⊥) → left ≡ 0 → Ran whole x y (Ok None)
   climbed_far ready other none = leads y (Ok None)
       (subst (λ (p : Lookup Path). Ran (quiet p) y y (Ok None))
       (sym (ap (λ n. led n tree dir path) none ∙ led_far tree dir path other)) (ran_none y ready None))
 
   module _ (n : ℕ) (other : dir ≡ tree.dirid → ⊥) (some : left ≡ suc n) (z : World) where
+    -- what is left of the way is a step and what comes of it
     here : led left tree dir path ≡ bind (step_up tree dir path) (led_on n tree)
     here = ap (λ k. led k tree dir path) some ∙ led_up tree n dir path other
 
+    -- where the step up stopped, the whole stopped
     pub climbed_stop : (s : TheStop) → Ran (quiet (step_up tree dir path)) y z (Err s) → Ran whole x z (Err s)
     climbed_stop s h = leads z (Err s)
         (subst (λ (p : Lookup Path). Ran (quiet p) y z (Err s)) (sym here) (quiet_halt (step_up tree dir path) (led_on n tree) y z s h))
 
+    -- where the directory hasn't exactly one name, there is no path
     pub climbed_none : Ran (quiet (step_up tree dir path)) y z (Ok None) → Ran whole x z (Ok None)
     climbed_none h = leads z (Ok None)
         (subst (λ (p : Lookup Path). Ran (quiet p) y z (Ok None)) (sym here)
         (quiet_then (step_up tree dir path) (led_on n tree) y z z None (Ok None) h (ran_none z h.ready None)))
 
+    -- where the step led to a parent, the way up has come to it, with one step less left
     pub climbed_more : (parent : ℕ) (path' : List ℕ) → Ran (quiet (step_up tree dir path)) y z (Ok (Some (parent, path')))
         → Leads whole (quiet (led n tree parent path')) x z
     climbed_more parent path' h = λ w answer g. leads w answer

@@ -88,7 +88,7 @@ fn next_turn<R: Rack>(
     ensures others { SameLoans (without_leaf store.old scan.old) (without_leaf store.new scan.new) }
     ensures lo { scan.new.lo ≡ scan.old.lo }
     ensures hi { scan.new.hi ≡ scan.old.hi }
-    ensures nears { TurnRankFalls scan.old scan.new result }
+    ensures rank_falls { TurnRankFalls scan.old scan.new result }
     ensures cause { HasCause store.old.layout (R.seen rack.old) (R.seen rack.new) result }
     ensures content { TellsTurn addr tree.now store.old store.new (R.seen rack.old) (R.seen rack.new)
         scan.old scan.new met.old met.new result }
@@ -118,7 +118,7 @@ fn find_owner<R: Rack>(
     ensures others { SameLoans (without_leaf store.old scan.old) (without_leaf store.new scan.new) }
     ensures lo { scan.new.lo ≡ scan.old.lo }
     ensures hi { scan.new.hi ≡ scan.old.hi }
-    ensures nears { FoundRankFalls (rank_of scan.old) (rank_of scan.new) result }
+    ensures rank_falls { FoundRankFalls (rank_of scan.old) (rank_of scan.new) result }
     ensures cause { HasCause store.old.layout (R.seen rack.old) (R.seen rack.new) result }
     ensures content { TellsFound addr tree.now store.old store.new (R.seen rack.old) (R.seen rack.new)
         scan.old scan.new met.old met.new result }
@@ -172,7 +172,7 @@ impl Owners {
         ensures reads { OnlyReads (R.seen rack.old) (R.seen rack.new) }
         ensures volume { SameVolume vol.old vol.new }
         ensures owners { AreOwners self.new }
-        ensures nears { FoundRankFalls (rank_of_owners self.old) (rank_of_owners self.new) result }
+        ensures rank_falls { FoundRankFalls (rank_of_owners self.old) (rank_of_owners self.new) result }
         ensures cause { HasCause vol.old.store.layout (R.seen rack.old) (R.seen rack.new) result }
         ensures content { TellsNext vol.old (R.seen rack.old) (R.seen rack.new) self.old self.new result }
     {

@@ -40,17 +40,18 @@ use Rattle.btr_run.specs.Unopened.{AreAgreed, IsOrUnopened}
 use Rattle.btr_run.specs.Checked.{check_in, check_outcome, filesystem_by, listing, unless_refused}
 use Rattle.btr_run.specs.Faults.{open_answer, stop_answer, tree_answer}
 use Rattle.btr_run.specs.Filesystem.{OpensAs, answer_as, fault_answer, filesystem_in, filesystem_of, with_roots, with_start, with_table}
-use Rattle.btr_run.specs.Outcomes.{HasOneOutcome, IsNoFault, Outcome, Shows, refused, showing}
+use Rattle.btr_run.specs.Outcomes.{HasOneOutcome, IsNoFault, Outcome, ShowsOutcome, refused, showing}
 use Rattle.btr_run.specs.declared.answer.Answer.{Answer}
 use Rattle.btr_run.specs.declared.answer.Answer.TheVariants.{Lost, Unmapped, Crosses, Malformed}
 use Rattle.btr_run.proofs.Coming.{comes_bare, shows_bare, shows_also}
-use Rattle.btr_run.proofs.Coming.{when_told}
+use Rattle.btr_read.proofs.Fetched.{map_some}
 use Rattle.btr_run.proofs.Orders.{scan_follows}
 use Rattle.btr_run.proofs.Refusals.{open_no_fault}
 use Rattle.btr_run.proofs.Wanted.{names_wanted}
 
 -- The images agree: what opening them came to, whatever failed.
 module _ (old new : Seen) (images : Images) (told : old.held ≡ Some images) (agreed : AreAgreed images) where
+  -- whatever failed, a scan of the chunk tree is the one over the images' blocks, to its end or up to where it was broken off
   scanned : (start : Start) → start_of images ≡ Ok start → (answer : Result TableResult (Halt Fault UnreadBlock)) → Scans start old new answer
       → Follows {S = ⊥} (unread_by (array_layout start) old new) no_part [] (exec (fate images (array_layout start)) (table_scan start)) [] answer
   scanned start is answer scans = scan_follows images start old new answer told (array_agreed images start (agreed start is)) scans
@@ -67,6 +68,7 @@ module _ (old new : Seen) (images : Images) (told : old.held ≡ Some images) (a
   roots_agree start is chunks ends =
       disagreeing-agreed images (layout_by start chunks) (root_want start.sup) (table_agreed start is chunks ends (root_want start.sup) tt)
 
+  -- the candidates of the root tree's root block are never found to differ
   never_differ : (slot : ℕ) → RootsDiffer images old new slot → ⊥
   never_differ slot d =
       let scan = scanned d.start d.is (Ok (Ok d.chunks)) d.scans in
@@ -96,6 +98,7 @@ module _ (old new : Seen) (images : Images) (told : old.held ≡ Some images) (a
 
   -- a refusal of opening is what a command comes to that shows it
   module _ (wanted : Outcome) (bare : (answer : Answer) → filesystem_of images ≡ Err answer → wanted ≡ refused answer) where
+    -- where the images make no filesystem, the command comes to the refusal of that
     by_filesystem : (answer : Answer) → filesystem_of images ≡ Err answer → IsOrUnopened images wanted (refused answer)
     by_filesystem answer e = inl (bare answer e)
 
@@ -104,6 +107,7 @@ module _ (old new : Seen) (images : Images) (told : old.held ≡ Some images) (a
     by_fault x answer is s = let scan = scanned s.start s.is (Err (halts x)) s.scans in by_filesystem answer
         (ap (with_start images) s.is ∙ ap (with_table images s.start) scan.1 ∙ ap (λ a. Err a) is)
 
+    -- a fault of the chunk tree is what the command comes to, or a block of that tree could not be read
     by_tree : (f : TreeFault) → Starts images old new (Err (halt_of f)) → IsOrUnopened images wanted (refused (tree_answer f))
     by_tree (tree.Lost a) s = by_fault (fault.Lost a) (Lost a) refl s
     by_tree (tree.Unmapped a) s = by_fault (fault.Unmapped a) (Unmapped a) refl s
@@ -126,6 +130,7 @@ module _ (old new : Seen) (images : Images) (told : old.held ≡ Some images) (a
         by_filesystem (open_answer r) (⊎_elim (λ start. ap (with_start images) start)
         (λ table. by_table table.0 table.2 ∙ ap (λ q. Err (open_answer q)) table.1) why)
 
+    -- a refusal of opening is what the command comes to, or a block of the chunk tree could not be read, an image failed, or memory was wanted
     pub unopened : (r : OpenFault) → Opens images old new (Err r) → IsOrUnopened images wanted (refused (open_answer r))
     unopened (opening.ImageFault slot) opens = inr (inr (inl (slot, refl)))
     unopened opening.Memory opens = inr (inr (inr refl))
@@ -171,21 +176,23 @@ unopened_where Q old new answer each = of old.held refl
 
 -- what a command comes to that shows the refusals of opening
 module _ (wanted : Images → Outcome) (bare : (images : Images) (answer : Answer) → filesystem_of images ≡ Err answer → wanted images ≡ refused answer) where
+  -- where the filesystem isn't opened, the answer is what the command comes to over images that agree, or says why they weren't opened
   pub unopened_to : (old new : Seen) (answer : Answer) → IfSome old.held (λ images. OpensAs images old new (Err answer))
       → IfSome old.held (λ images. AreAgreed images → IsOrUnopened images (wanted images) (refused answer))
   unopened_to old new answer =
       unopened_where (λ images a. IsOrUnopened images (wanted images) (refused a)) old new answer
       (λ images told agreed r opens. unopened old new images told agreed (wanted images) (bare images) r opens)
 
+  -- the same of a command that shows a text: it puts none then
   pub unopened_agreed : (old new : Seen) (answer result : Answer) → result ≡ answer → (text : Option Text) (account : CallAccount)
       → IfSome old.held (λ images. OpensAs images old new (Err answer))
-      → IfSome old.held (λ images. AreAgreed images → Shows (IsOrUnopened images (wanted images)) text text account account result)
+      → IfSome old.held (λ images. AreAgreed images → ShowsOutcome (IsOrUnopened images (wanted images)) text text account account result)
   unopened_agreed old new answer result is text account opens =
-      when_told old.held (λ images. AreAgreed images → (result ≡ answer) → Shows (IsOrUnopened images (wanted images)) text text account account result)
-      (λ images. AreAgreed images → Shows (IsOrUnopened images (wanted images)) text text account account result)
+      map_some old.held (λ images. AreAgreed images → (result ≡ answer) → ShowsOutcome (IsOrUnopened images (wanted images)) text text account account result)
+      (λ images. AreAgreed images → ShowsOutcome (IsOrUnopened images (wanted images)) text text account account result)
       (λ images h agreed. h agreed is)
-      (unopened_where (λ images a. (result ≡ a) → Shows (IsOrUnopened images (wanted images)) text text account account result) old new answer
-      (λ images told agreed r opens same. subst (Shows (IsOrUnopened images (wanted images)) text text account account) (sym same)
+      (unopened_where (λ images a. (result ≡ a) → ShowsOutcome (IsOrUnopened images (wanted images)) text text account account result) old new answer
+      (λ images told agreed r opens same. subst (ShowsOutcome (IsOrUnopened images (wanted images)) text text account account) (sym same)
       (shows_bare (IsOrUnopened images (wanted images)) text account (open_answer r) (unopened old new images told agreed (wanted images) (bare images) r opens)
       (open_no_fault r))) opens)
 
@@ -194,7 +201,7 @@ module _ (wanted : Images → Outcome) (bare : (images : Images) (answer : Answe
       → IfSome old.held (λ images. OpensAs images old new (Err answer))
       → IfSome old.held (λ images. AreAgreed images → HasOneOutcome May (IsOrUnopened images (wanted images)) x x result)
   unopened_comes May old new answer result is x opens =
-      when_told old.held (λ images. AreAgreed images → (result ≡ answer) → HasOneOutcome May (IsOrUnopened images (wanted images)) x x result)
+      map_some old.held (λ images. AreAgreed images → (result ≡ answer) → HasOneOutcome May (IsOrUnopened images (wanted images)) x x result)
       (λ images. AreAgreed images → HasOneOutcome May (IsOrUnopened images (wanted images)) x x result)
       (λ images h agreed. h agreed is)
       (unopened_where (λ images a. (result ≡ a) → HasOneOutcome May (IsOrUnopened images (wanted images)) x x result) old new answer
@@ -228,6 +235,7 @@ module _ (old mid : Seen) (volume : Volume) (opens : IfSome old.held (λ images.
 -- The filesystem is open, and this was told of it.
 module _ (read_data : Bool) (old mid new : Seen) (first : OnlyReads old mid) (volume : Volume)
     (opens : IfSome old.held (λ images. OpensAs images old mid (Ok volume))) where
+  -- what follows from the images' filesystem and from what was told of its blocks holds of images that agree
   pub agreeing : (P : Map → Type 0) (Q : Images → Type 0)
       → ((images : Images) → filesystem_of images ≡ Ok (filesystem_in volume) → P (fate images volume.store.layout) → Q images)
       → Tells volume.store.layout mid new P
@@ -237,13 +245,15 @@ module _ (read_data : Bool) (old mid new : Seen) (first : OnlyReads old mid) (vo
       (at_map volume.store.layout mid new images P (ap (λ (s : Seen). s.held) first.same ∙ told) agreed tells))
 
   -- the filesystem isn't checked
-  module _ (end : Stop) (reading : OfReading end) (answer : Answer) (is : answer ≡ stop_answer end) (calm : IsNoFault (stop_answer end)) where
+  module _ (end : Stop) (reading : OfReading end) (answer : Answer) (is : answer ≡ stop_answer end) (no_fault : IsNoFault (stop_answer end)) where
+    -- a stop of a check is what the images come to, or says that a block could not be read that the check wants, or that there is no memory
     stopped_one : (images : Images) → filesystem_of images ≡ Ok (filesystem_in volume)
         → (is_outside end ≡ false → refusal (filesystem_by images (filesystem_in volume)) ≡ Some end)
         → StopUnread (IsUnreadOf volume.store.layout mid new (OfCheck read_data (filesystem_by images (filesystem_in volume)))) end
         → IsCheckedOrUnread read_data images (refused (stop_answer end))
     stopped_one images opened = of end reading
       where
+        -- a stop that refuses the filesystem is what the check comes to
         refusing : (s : Stop) → refusal (filesystem_by images (filesystem_in volume)) ≡ Some s → check_outcome read_data images ≡ refused (stop_answer s)
         refusing s e = ap (check_in read_data images) opened ∙ ap
             (λ r. unless_refused r (listing (findings read_data (filesystem_by images (filesystem_in volume))))) e
@@ -270,33 +280,37 @@ module _ (read_data : Bool) (old mid new : Seen) (first : OnlyReads old mid) (vo
         of stop.Memory r f u = inl (inr (inr (inr refl)))
         of other r f u = absurd r
 
+    -- the stop is what refuses the filesystem by these blocks, unless it came from outside of them
     abbrev Refused : Map → Type 0
     Refused B = is_outside end ≡ false → refusal (filesystem volume B) ≡ Some end
 
+    -- if the stop names a block that could not be read, it is one that the check wants
     abbrev Named : Map → Type 0
     Named B = StopUnread (IsUnreadOf volume.store.layout mid new (OfCheck read_data (filesystem volume B))) end
 
+    -- over images that agree a check that stopped put nothing, and its answer is the images' refusal, or why it went no further
     pub stopped_agreed : (text : Option Text) (account : CallAccount) → Tells volume.store.layout mid new Refused → Tells volume.store.layout mid new Named
-        → IfSome old.held (λ images. AreAgreed images → Shows (IsCheckedOrUnread read_data images) text text account account answer)
+        → IfSome old.held (λ images. AreAgreed images → ShowsOutcome (IsCheckedOrUnread read_data images) text text account account answer)
     stopped_agreed text account told named =
         agreeing (λ B. Refused B × Named B)
-        (λ images. Shows (IsCheckedOrUnread read_data images) text text account account answer)
+        (λ images. ShowsOutcome (IsCheckedOrUnread read_data images) text text account account answer)
         (λ images opened h.
-        subst (Shows (IsCheckedOrUnread read_data images) text text account account) (sym is)
-        (shows_bare (IsCheckedOrUnread read_data images) text account (stop_answer end) (stopped_one images opened h.0 h.1) calm))
+        subst (ShowsOutcome (IsCheckedOrUnread read_data images) text text account account) (sym is)
+        (shows_bare (IsCheckedOrUnread read_data images) text account (stop_answer end) (stopped_one images opened h.0 h.1) no_fault))
         (paired volume.store.layout Refused Named (λ B. Refused B × Named B) (λ B r n. (r, n)) told named)
 
   -- the filesystem was checked, and a list of findings was put
   module _ (all : List Finding) (answer : Answer) where
-    pub listed_agreed : (text text' : Option Text) (before after : CallAccount) → Shows
+    -- over images that agree the findings that were put are those that the check comes to
+    pub listed_agreed : (text text' : Option Text) (before after : CallAccount) → ShowsOutcome
         (λ outcome. outcome ≡ showing (listing all)) text text' before after answer
         → Tells volume.store.layout mid new (λ B. (refusal (record { sup = volume.sup; chunks = volume.store.layout.chunks; blocks = B }) ≡ None)
         × (all ≡ findings read_data (record { sup = volume.sup; chunks = volume.store.layout.chunks; blocks = B })))
-        → IfSome old.held (λ images. AreAgreed images → Shows (IsCheckedOrUnread read_data images) text text' before after answer)
+        → IfSome old.held (λ images. AreAgreed images → ShowsOutcome (IsCheckedOrUnread read_data images) text text' before after answer)
     listed_agreed text text' before after shows =
         agreeing (λ B. (refusal (record { sup = volume.sup; chunks = volume.store.layout.chunks; blocks = B }) ≡ None)
         × (all ≡ findings read_data (record { sup = volume.sup; chunks = volume.store.layout.chunks; blocks = B })))
-        (λ images. Shows (IsCheckedOrUnread read_data images) text text' before after answer)
+        (λ images. ShowsOutcome (IsCheckedOrUnread read_data images) text text' before after answer)
         (λ images opened h.
         shows_also (λ outcome. outcome ≡ showing (listing all)) (IsCheckedOrUnread read_data images) text text' before after answer
         (λ outcome e. inl (inl (ap (check_in read_data images) opened ∙ ap

@@ -61,6 +61,7 @@ destination_begins left (Verbose ∷ options) name rest is = record { word = cod
 destination_begins left (Dry ∷ options) name rest is = record { word = codes "-D"; more = _; are = refl; may = refl }
 destination_begins left (Salvage ∷ options) name rest is = record { word = codes "-i"; more = _; are = refl; may = refl }
 
+-- words that some parts take begin with a word that may begin these parts
 pub begins_so : (parts : List Part) (at : ℕ) (words : Words) (old new : Read) → ReadsParts parts at words old new → BeginsSo parts words
 begins_so [] at [] old new reads = absurd reads.0
 begins_so [] at (first ∷ more) old new reads = record { word = first; more = more; are = refl; may = reads.0 0 first (omega arith) }
@@ -88,6 +89,7 @@ first_apart a rest q words are begins none = of (may_begin q a) (ap (may_begin q
     of true e f = absurd (cc f)
     of false e f = absurd (cc e)
 
+-- no words are taken by both of two lists of parts that are apart
 never_both : (p q : List Part) → apart p q ≡ true → (at other : ℕ) (words : Words) (old new old' new' : Read)
     → ReadsParts p at words old new → ReadsParts q other words old' new' → ⊥
 never_both [] q is at other words old new old' new' a b = absurd (cc is)
@@ -134,9 +136,11 @@ abbrev place_of : Sentence → List Sentence → ℕ
 place_of s [] = 0
 place_of s (t ∷ ts) = cond (are_apart s t) (suc (place_of s ts)) 0
 
+-- each number below the count of forms is that of a form
 by_number : (n : ℕ) → ltb n (length forms) ≡ true → IsNumbered (form_at n)
 by_number n lt = record { number = n; below = ltb-true n (length forms) lt; is = refl }
 
+-- each form has a number
 pub numbered : (sentence : Sentence) → IsNumbered sentence
 numbered Super = by_number (place_of Super forms) refl
 numbered sentence = by_number (place_of sentence forms) refl
@@ -146,6 +150,7 @@ abbrev all_below : ℕ → (ℕ → Bool) → Bool
 all_below zero p = true
 all_below (suc n) p = cond (p n) (all_below n p) false
 
+-- what holds by the test of all numbers below some holds of each of them
 each_below : (n : ℕ) (p : ℕ → Bool) → all_below n p ≡ true → (k : ℕ) → k < n → p k ≡ true
 each_below zero p all k lt = absurd (omega (arith, lt))
 each_below (suc n) p all k lt = of (p n) refl all (λ rest below. each_below n p rest k below)
@@ -154,9 +159,11 @@ each_below (suc n) p all k lt = of (p n) refl all (λ rest below. each_below n p
     of true e f more = ⊎_elim (λ (same : k ≡ n). ap p same ∙ e) (λ (below : k < n). more f below) (eq-or-lt_of_le (omega (arith, lt)))
     of false e f more = absurd (cc f)
 
+-- any two forms with different numbers are apart
 all_apart : all_below (length forms) (λ i. all_below (length forms) (λ j. eqb i j || are_apart (form_at i) (form_at j))) ≡ true
 all_apart = refl
 
+-- any two forms are the same, or apart
 same_or_apart : (s t : Sentence) → (s ≡ t) ⊎ (are_apart s t ≡ true)
 same_or_apart s t =
     of (eqb a.number b.number) refl

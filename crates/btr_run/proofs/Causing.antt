@@ -1,25 +1,16 @@
 -- What lies behind a failed opening or read of an image, after calls that didn't fail.
-use Rattle.std.proofs.Common.{◌≡◌, ℕ, ◌<◌, ◌≤◌, List, [], length, map, get_or, String, Some, refl, sym, ap, ◌∙◌, arith}
+use Rattle.std.proofs.Common.{◌≡◌, ℕ, ◌<◌, List, [], length, map, get_or, String, Some, refl, sym, ap, ◌∙◌, arith}
 use Rattle.std.specs.Prelude.{slice_get}
 use Rattle.std.specs.String.{string_bytes}
 use Rattle.std.specs.declared.alloc.Global.{Global}
 use Rattle.std.proofs.lemmas.List.{get_or-map, length-map}
 use Rattle.std.proofs.lemmas.Option.{slice_get-get_or}
-use Rattle.btr_rack.specs.Rack.{Seen, Account, Rose, NoneFailed, OnlyCounts, next_count}
+use Rattle.btr_rack.specs.Rack.{Seen, Account, NoneFailed, OnlyCounts}
 use Rattle.btr_run.specs.Causes.{opened_with}
 
+-- before any call none has failed
 pub none_failed_yet : (account : Account) → NoneFailed account account
 none_failed_yet account = record { faults = omega arith; fresh = refl; missed = refl; last = refl; opening = refl; shut = refl }
-
-pub none_failed_twice : (old mid new : Account) → NoneFailed old mid → NoneFailed mid new → NoneFailed old new
-none_failed_twice old mid new a b = record {
-  faults = omega (arith, a.faults, b.faults);
-  fresh = b.fresh ∙ a.fresh;
-  missed = b.missed ∙ a.missed;
-  last = b.last ∙ a.last;
-  opening = b.opening ∙ a.opening;
-  shut = b.shut ∙ a.shut;
-}
 
 -- a rack after calls of which none failed, and then some that only read, is as it is with the account from before
 pub opened_again : (old mid new : Seen) → NoneFailed old.account mid.account → OnlyCounts mid new → mid ≡ opened_with old.account new
@@ -28,17 +19,12 @@ opened_again old mid new none same =
     (λ i. record { faults = none.faults i; fresh = none.fresh i; missed = none.missed i; last = none.last i; opening = none.opening i; shut = none.shut i })
     ∙ sym (ap (λ (s : Seen). record s { account = old.account }) same)
 
-pub rose_behind : (old mid new : ℕ) → old ≤ mid → Rose mid new → Rose old new
-rose_behind old mid new le rose = (omega (arith, rose.0), omega (arith, rose.1))
-
-pub some_fresh : (old new : ℕ) → new ≡ next_count old → 1 ≤ new
-some_fresh old new is = omega arith
-
 -- the name at an index, as the names' texts have it
 pub name_at : (xs : List (String Global)) (i : ℕ) (x : String Global) (w : List ℕ) → i < length xs → w ≡ string_bytes x → x ≡ get_or xs i x
     → get_or (map string_bytes xs) i [] ≡ w
 name_at xs i x w lt is at = get_or-map string_bytes xs i x [] lt ∙ sym (ap string_bytes at) ∙ sym is
 
+-- there is a name at the index, with the bytes of its text
 pub named_at : (xs : List (String Global)) (i : ℕ) (x : String Global) (w : List ℕ) → i < length xs → w ≡ string_bytes x → x ≡ get_or xs i x
     → slice_get (map string_bytes xs) i ≡ Some w
 named_at xs i x w lt is at =

@@ -74,6 +74,7 @@ images_within (File ∷ left) at words old new reads =
 abbrev pub AreThere : Read → ℕ → Type 0
 AreThere read bound = (read.name < bound) × (read.file < bound)
 
+-- behind some parts, too, the destination and the file have numbers below a bound that the words don't go beyond
 names_there : (left : List Part) (at : ℕ) (words : Words) (old new : Read) (bound : ℕ) → ReadsParts left at words old new → AreThere old bound
     → at + length words ≤ bound
     → AreThere new bound
@@ -113,10 +114,12 @@ names_images SelfTest read takes = absurd (takes read.number refl)
 names_images sentence read takes = tt
 
 module _ (plan : Plan) (words : Words) (s : IsSentence plan words) where
+  -- the images of a sentence begin within its words, or at their end
   pub first_image : plan.images ≤ length words
   first_image = subst (λ (p : Plan). p.images ≤ length words) (sym s.plan_is)
       (omega (arith, images_within (parts_of s.sentence) 0 words (nothing_of s.sentence) s.read s.is_read))
 
+  -- a sentence of a command that takes images names at least one
   pub some_image : TakesImages plan.command → 0 < length (images_of plan words)
   some_image takes = omega (
     arith,

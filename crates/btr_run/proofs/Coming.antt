@@ -1,7 +1,6 @@
 -- Outcomes, and what was done and put of them.
 use Rattle.std.proofs.Common.{◌≡◌, ◌⊎◌, inl, inr, ℕ, zero, suc, ◌≤◌, false, List, [], ◌∷◌, ◌++◌, length, take, fold, Option, Some, None, Result, Ok, Err, refl}
 use Rattle.std.proofs.Common.{sym, ap, ◌∙◌, subst, arith}
-use Rattle.std.specs.Option.{IfSome}
 use Rattle.std.specs.Result.{IsErrAnd}
 use Rattle.std.proofs.lemmas.List.{append-nil, take_all}
 use Rattle.std.proofs.lemmas.Result.{err_from_is_err_and}
@@ -17,16 +16,12 @@ use Rattle.btr_restore.specs.Running.{Outside}
 use Rattle.btr_listing.specs.Step.{Step, Line}
 use Rattle.btr_text.proofs.Writing.{adds_nothing, adds_twice}
 use Rattle.btr_run.specs.Answers.{error_line, answer_of}
-use Rattle.btr_run.specs.Outcomes.{Outcome, Shown, refused, showing, text_steps, due_after, IsPut, IsNoFault, Shows, IsFirstPart, Stands, StandsPartly}
+use Rattle.btr_run.specs.Outcomes.{Outcome, Shown, refused, showing, text_steps, due_after, IsPut, IsNoFault, ShowsOutcome, IsFirstPart, DidAndTold}
+use Rattle.btr_run.specs.Outcomes.{StandsPartly}
 use Rattle.btr_run.specs.Outcomes.{CallFailed}
 use Rattle.btr_run.specs.Outcomes.{OneFailed, How, Whole, SinkFailed, OutFailed, Wanted, HasEnded, HasOneOutcome, HasFirstPart, MayEnd, IsPrinted}
 use Rattle.btr_run.specs.declared.answer.Answer.{Answer}
 use Rattle.btr_run.specs.declared.answer.Answer.TheVariants.{SinkFault, OutFault, Memory}
-
--- where something is told, a clause on it
-pub when_told : {X : Type 0} (o : Option X) (P Q : X → Type 0) → ((x : X) → P x → Q x) → IfSome o P → IfSome o Q
-when_told None P Q f p = tt
-when_told (Some x) P Q f p = f x p
 
 -- the answer that a `?` made of a fault
 pub answer_gives : (r : Result Answer Answer) (answer : Answer) → IsErrAnd r (λ a. a ≡ answer) → answer_of r ≡ answer
@@ -44,7 +39,7 @@ put_ends old new before after text answer result put = of put.put put.due
 
 -- an answer before any text
 pub shows_bare : (IsOne : Outcome → Type 0) (text : Option (List ℕ)) (account : CallAccount) (answer : Answer) → IsOne (refused answer) → IsNoFault answer
-    → Shows IsOne text text account account answer
+    → ShowsOutcome IsOne text text account account answer
 shows_bare IsOne text account answer is_one no_fault =
     record {
       shown = record { answer = answer; text = [] };
@@ -56,8 +51,8 @@ shows_bare IsOne text account answer is_one no_fault =
 
 -- one of more outcomes
 pub shows_also : (IsOne IsOther : Outcome → Type 0) (old new : Option (List ℕ)) (before after : CallAccount) (result : Answer)
-    → ((outcome : Outcome) → IsOne outcome → IsOther outcome) → Shows IsOne old new before after result
-    → Shows IsOther old new before after result
+    → ((outcome : Outcome) → IsOne outcome → IsOther outcome) → ShowsOutcome IsOne old new before after result
+    → ShowsOutcome IsOther old new before after result
 shows_also IsOne IsOther old new before after result more shows = record
     { shown = shows.shown; is_one = more (showing shows.shown) shows.is_one; no_fault = shows.no_fault; put = shows.put }
 
@@ -91,10 +86,12 @@ text_is : (text : List ℕ) → text_of (text_steps text) ++ [] ≡ text
 text_is [] = refl
 text_is (b ∷ text) = append-nil ((b ∷ text) ++ []) ∙ append-nil (b ∷ text)
 
+-- putting a text leaves the sink as it was
 sink_same : (text : List ℕ) (s : Sink) → fold sink_after s (text_steps text) ≡ s
 sink_same [] s = refl
 sink_same (b ∷ text) s = refl
 
+-- the step of a first part of a text is a first part of the text's step
 text_cut : (text : List ℕ) (n : ℕ) → IsFirstPart (text_steps text) (text_steps (take n text))
 text_cut [] n = record { before = []; behind = []; left = None; place = refl; is = ap text_steps (take-nil n); stands = tt }
 text_cut (b ∷ text) zero = record { before = []; behind = Line (b ∷ text) ∷ []; left = None; place = refl; is = refl; stands = tt }
@@ -110,9 +107,11 @@ text_cut (b ∷ text) (suc n) = record {
 
 -- of a text that is shown some bytes stand, or a first part of it
 module _ (x y : Outside) (same : y.sink ≡ x.sink) where
-  pub text_stands : (bytes : List ℕ) → Adds x.text y.text bytes → Stands x y (text_steps bytes) []
+  -- bytes that were put stand as the step that puts them
+  pub text_stands : (bytes : List ℕ) → Adds x.text y.text bytes → DidAndTold x y (text_steps bytes) []
   text_stands bytes adds = record { sink = same ∙ sym (sink_same bytes x.sink); text = subst (Adds x.text y.text) (sym (text_is bytes)) adds }
 
+  -- where a first part of a text that is shown was put, a first part of its steps stands
   pub text_partly : (shown : Shown) → (n : ℕ) × Adds x.text y.text (take n shown.text) → StandsPartly x y (showing shown) []
   text_partly shown p =
       record { done = text_steps (take p.0 shown.text); first = text_cut shown.text p.0; stands = text_stands (take p.0 shown.text) p.1 }
@@ -132,7 +131,7 @@ comes_wanted May IsOne x y shown one no_fault may same same_calls same_out part 
 -- what was shown came, and no call of the sink was made
 pub comes_shown : (May : Type 0) (IsOne : Outcome → Type 0) (x y : Outside) (result : Answer) → y.sink ≡ x.sink → y.sink_calls ≡ x.sink_calls
     → (x.out_calls.ample ≡ false → May)
-    → Shows IsOne x.text y.text x.out_calls y.out_calls result → HasOneOutcome May IsOne x y result
+    → ShowsOutcome IsOne x.text y.text x.out_calls y.out_calls result → HasOneOutcome May IsOne x y result
 comes_shown May IsOne x y result same same_calls scarce shows = of shows.put.put shows.put.puts shows.put.counts shows.put.due
   where
     text : List ℕ
@@ -156,6 +155,7 @@ line_part : (mid new : Option (List ℕ)) (line : List ℕ) (r : Result Unit Sin
 line_part mid new line (Ok x) puts = (length line, subst (Adds mid new) (sym (take_all (length line) line (omega arith))) puts)
 line_part mid new line (Err e) puts = puts
 
+-- a count that rose, and didn't fall since, rose in all
 rose_again : (before between after : ℕ) → Rose before between → before ≤ after → between ≤ after → Rose before after
 rose_again before between after a le more = (le, omega (arith, a.0, a.1, more))
 
@@ -165,19 +165,22 @@ with_line y text calls = record y { text = text; out_calls = calls }
 
 module _ (May : Type 0) (x y : Outside) (new : Option (List ℕ)) (after : CallAccount) (outcome : Outcome) (result : Answer)
     (scarce : x.out_calls.ample ≡ false → May) where
+  -- the sink and the output behind the line
   abbrev z : Outside
   z = with_line y new after
 
   -- a line behind some steps
-  behind : (done : List Step) (line : List ℕ) → Stands x y done [] → Adds y.text new line → Stands x z done line
+  behind : (done : List Step) (line : List ℕ) → DidAndTold x y done [] → Adds y.text new line → DidAndTold x z done line
   behind done line stands adds = record {
     sink = stands.sink;
     text = subst (Adds x.text new) (ap (λ l. l ++ line) (append-nil (text_of done))) (adds_twice x.text y.text new (text_of done ++ []) line stands.text adds);
   }
 
+  -- a line behind a first part of the outcome's steps
   behind_part : (line : List ℕ) → StandsPartly x y outcome [] → Adds y.text new line → StandsPartly x z outcome line
   behind_part line partly adds = record { done = partly.done; first = partly.first; stands = behind partly.done line partly.stands adds }
 
+  -- a first part of the line of an answer, behind a first part of the outcome's steps
   first_part : (answer : Answer) → MayEnd outcome answer → StandsPartly x y outcome [] → (m : ℕ) × Adds y.text new (take m (error_line answer))
       → HasFirstPart x z outcome
   first_part answer may partly line = record
@@ -192,12 +195,14 @@ module _ (May : Type 0) (x y : Outside) (new : Option (List ℕ)) (after : CallA
   failed_line answer may partly same memory_fault puts counts due = inr
       (inr (inr (due, scarce (subst (λ (c : CallAccount). c.ample ≡ false) same counts.0), first_part answer may partly puts)))
 
-  after_whole : Stands x y outcome.steps [] → y.out_calls ≡ x.out_calls → (r : Result Unit SinkError) → Puts y.text new (error_line outcome.answer) r
+  -- behind all steps the line of the outcome's answer was put, or the output refused it
+  after_whole : DidAndTold x y outcome.steps [] → y.out_calls ≡ x.out_calls → (r : Result Unit SinkError) → Puts y.text new (error_line outcome.answer) r
       → Counts y.out_calls after r → result ≡ due_after r outcome.answer → IsPrinted May x z outcome result
   after_whole stands same (Ok u) puts counts due = inl (due, behind outcome.steps (error_line outcome.answer) stands puts)
   after_whole stands same (Err fault) puts counts due =
       failed_line outcome.answer (inl refl) (record { done = outcome.steps; first = whole_first outcome.steps; stands = stands }) same fault puts counts due
 
+  -- where the sink failed, the line of that was put behind a first part of the steps, or the output refused it
   after_sink : CallFailed x.sink_calls y.sink_calls → StandsPartly x y outcome [] → ((y.out_calls ≡ x.out_calls) ⊎ OneFailed x.out_calls y.out_calls)
       → (r : Result Unit SinkError) → Puts y.text new (error_line SinkFault) r → Counts y.out_calls after r
       → result ≡ due_after r SinkFault → IsPrinted May x z outcome result
@@ -212,6 +217,7 @@ module _ (May : Type 0) (x y : Outside) (new : Option (List ℕ)) (after : CallA
   after_sink failed partly (inr one) (Err memory_fault) puts counts due =
       inr (inr (inr (due, scarce (sym (ap (λ (c : CallAccount). c.ample) one.1) ∙ counts.0), first_part SinkFault (inr (inl refl)) partly puts)))
 
+  -- where memory was wanted, the line of that was put behind a first part of the steps, or the output refused it
   after_want : May → StandsPartly x y outcome [] → y.out_calls ≡ x.out_calls → (r : Result Unit SinkError) → Puts y.text new (error_line Memory) r
       → Counts y.out_calls after r → result ≡ due_after r Memory → IsPrinted May x z outcome result
   after_want may partly same (Ok u) puts counts due = inr

@@ -17,6 +17,7 @@ tree_in (Crosses addr) = Some (tree.Crosses addr)
 tree_in (Malformed addr) = Some (tree.Malformed addr)
 tree_in answer = None
 
+-- the answer of a fault of a tree is that fault
 pub tree_back : (fault : TreeFault) → tree_in (tree_answer fault) ≡ Some fault
 tree_back (tree.Lost addr) = refl
 tree_back fault = refl
@@ -25,5 +26,6 @@ tree_back fault = refl
 pub no_tree : (answer : Answer) → tree_in answer ≡ None → (fault : TreeFault) → answer ≡ tree_answer fault → ⊥
 no_tree answer none fault is = cc (sym none ∙ ap tree_in is ∙ tree_back fault)
 
+-- an answer that is no fault of a tree has no cause to tell
 pub untold : (old new : Seen) (answer : Answer) → tree_in answer ≡ None → HasToldCause AnyFault old new answer
 untold old new answer none fault is told = absurd (no_tree answer none fault is)

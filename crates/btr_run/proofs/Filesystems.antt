@@ -1,22 +1,19 @@
 -- What opening a filesystem comes to, where no call on an image failed.
-use Rattle.std.proofs.Common.{◌≡◌, ◌⊎◌, inl, inr, ⊎_elim, ℕ, [], Option, Some, None, Result, Ok, Err, refl, sym, ap, ◌∙◌, subst, arith}
+use Rattle.std.proofs.Common.{◌≡◌, ◌⊎◌, inl, inr, ⊎_elim, ℕ, Option, Some, None, Result, Ok, Err, refl, sym, ap, ◌∙◌, subst}
 use Rattle.std.specs.Option.{IfSome}
-use Rattle.btr_prog.specs.Prog.{exec}
-use Rattle.btr_prog.specs.Answers.{Halt, Fault as halts, Follows, no_part}
-use Rattle.btr_prog.specs.Calls.{First}
-use Rattle.btr_rack.specs.Rack.{OnlyReads, Seen, Rose, Steady}
-use Rattle.btr_read.specs.Fate.{Fault, fate}
+use Rattle.btr_prog.specs.Answers.{Fault as halts}
+use Rattle.btr_rack.specs.Rack.{OnlyReads, Seen, Steady}
 use Rattle.btr_read.specs.Fate as fault
 use Rattle.btr_read.specs.Layout.{Layout}
-use Rattle.btr_walk.specs.Reading.{FaultCause, UnreadBlock, unread_by, halt_of}
+use Rattle.btr_walk.specs.Reading.{FaultCause, halt_of}
 use Rattle.btr_walk.specs.declared.fault.TreeFault.{TreeFault}
 use Rattle.btr_walk.specs.declared.fault.TreeFault.TheVariants as tree
 use Rattle.btr_volume.specs.Maps.{array_layout}
 use Rattle.btr_volume.specs.Tree.{root_want}
-use Rattle.btr_read.proofs.Compared.{compares_steady}
+use Rattle.btr_read.proofs.Compared.{compares_steady, steady_not_rose}
 use Rattle.btr_volume.specs.Opening.{OpenCause, Opens, Opened, RootsDiffer, Scans, StartOf, Starts, start_in}
 use Rattle.btr_volume.specs.Start.{Images, Start, start_of, layout_by}
-use Rattle.btr_volume.specs.Table.{TableResult, refusal_of, table_scan}
+use Rattle.btr_volume.specs.Table.{refusal_of}
 use Rattle.btr_volume.specs.declared.fault.OpenFault.{OpenFault}
 use Rattle.btr_volume.specs.declared.fault.OpenFault.TheVariants as opening
 use Rattle.btr_volume.specs.declared.fault.TableFault.{TableFault}
@@ -26,20 +23,9 @@ use Rattle.btr_run.specs.Faults.{open_answer, tree_answer}
 use Rattle.btr_run.specs.Filesystem.{OpensAs, OpensFilesystem, answer_as, filesystem_of, filesystem_in, with_roots, with_start, with_table}
 use Rattle.btr_run.specs.declared.answer.Answer.{Answer}
 use Rattle.btr_run.specs.declared.answer.Answer.TheVariants.{Diverged}
-use Rattle.btr_run.proofs.Coming.{when_told}
+use Rattle.btr_read.proofs.Fetched.{map_some}
 use Rattle.btr_run.proofs.Faulting.{tree_back, tree_in}
-
-steady_not_rose : (before now : ℕ) → Steady before now → Rose before now → ⊥
-steady_not_rose before now steady rose = omega (arith, steady.0, steady.1, rose.0, rose.1)
-
--- where no call failed, the scan of the chunk tree is that over the images
-scanned : (start : Start) (old new : Seen) (images : Images) (answer : Result TableResult (Halt Fault UnreadBlock)) → old.held ≡ Some images
-    → Steady old.account.faults new.account.faults → Scans start old new answer
-    → Follows {S = ⊥} (unread_by (array_layout start) old new) no_part [] (exec (fate images (array_layout start)) (table_scan start)) [] answer
-scanned start old new images answer told steady scans =
-    subst (λ (o : Option Images). IfSome o (λ i. Follows {S = ⊥} (unread_by (array_layout start) old new) no_part []
-    (exec (fate i (array_layout start)) (table_scan start)) [] answer)) told
-    (scans.calls.content First (omega (arith, scans.calls.later, steady.0), steady.1))
+use Rattle.btr_trial.proofs.Filesystems.{scanned}
 
 -- the volume is the filesystem
 opened : (old new : Seen) (images : Images) (volume : Volume) → old.held ≡ Some images → Steady old.account.faults new.account.faults
@@ -92,6 +78,7 @@ by_roots old new images slot told steady why =
     let some = compares_steady images (layout_by d.start d.chunks) (root_want d.start.sup) old new (Some slot) told steady d.differ in
     ap (with_start images) d.is ∙ ap (with_table images d.start) scan.1 ∙ ap (with_roots d.start d.chunks) (sym some)) why)
 
+-- where no call failed, a refusal of opening is that of the images, or memory was wanted
 refused : (old new : Seen) (images : Images) (refusal : OpenFault) → old.held ≡ Some images → Steady old.account.faults new.account.faults
     → OpenCause {T = Volume} old new (Err refusal) → Opens images old new (Err refusal)
     → OpensFilesystem images (Err (open_answer refusal))
@@ -110,6 +97,7 @@ refused old new images opening.BadArray told steady cause opens = by_refusal old
 refused old new images (opening.BadChunk start) told steady cause opens = by_refusal old new images (opening.BadChunk start) told steady opens
 refused old new images (opening.Limit which count) told steady cause opens = by_refusal old new images (opening.Limit which count) told steady opens
 
+-- where the rack tells its images and no call failed, a volume that was opened is their filesystem
 pub opened_content : (old new : Seen) (volume : Volume) → IfSome old.held (λ images. Opens images old new (Ok volume))
     → IfSteady old.held old.account new.account (λ images. OpensFilesystem images (Ok volume))
 opened_content old new volume = of old.held refl
@@ -119,6 +107,7 @@ opened_content old new volume = of old.held refl
     of None told opens = tt
     of (Some images) told opens = λ steady. opened old new images volume told steady opens
 
+-- where the rack tells its images and no call failed, the answer of a refusal is theirs, or memory was wanted
 pub refused_content : (old new : Seen) (refusal : OpenFault) (answer : Answer) → answer ≡ open_answer refusal → OpenCause {T = Volume} old new (Err refusal)
     → IfSome old.held (λ images. Opens images old new (Err refusal))
     → IfSteady old.held old.account new.account (λ images. OpensFilesystem images (Err answer))
@@ -138,6 +127,7 @@ opened_as old new volume = of old.held
     of None opens = tt
     of (Some images) opens = record { opening = Ok volume; opens = opens; same = refl }
 
+-- an opening that was refused answers as its refusal says, whatever failed
 pub refused_as : (old new : Seen) (refusal : OpenFault) (result : Result Volume Answer) → result ≡ Err (open_answer refusal)
     → IfSome old.held (λ images. Opens images old new (Err refusal)) → IfSome old.held (λ images. OpensAs images old new result)
 refused_as old new refusal result is = of old.held
@@ -185,9 +175,11 @@ pub refused_tree : (old new : Seen) (refusal : OpenFault) (answer : Answer) → 
     → HasTreeCause old new answer
 refused_tree old new refusal answer is cause fault e = of refusal cause (ap tree_in (sym is ∙ e) ∙ tree_back fault)
   where
+    -- the fault has its cause by some layout of the images
     Caused : Type 0
     Caused = (layout : Layout) × IsLayoutOf old new layout × FaultCause layout old new fault
 
+    -- a fault that has its cause by the chunks of the array has it by a layout of the images
     by_array : (f : TreeFault) → f ≡ fault → (begun : StartOf old) → FaultCause (array_layout begun.start) old new f → Caused
     by_array f same begun caused = (
       array_layout begun.start,
@@ -195,7 +187,7 @@ refused_tree old new refusal answer is cause fault e = of refusal cause (ap tree
         start = begun.start;
         chunks = begun.start.array;
         by = refl;
-        is = when_told old.held (λ images. start_of images ≡ Ok begun.start) _ (λ images e. (e, inl refl)) begun.is;
+        is = map_some old.held (λ images. start_of images ≡ Ok begun.start) _ (λ images e. (e, inl refl)) begun.is;
       },
       subst (FaultCause (array_layout begun.start) old new) same caused,
     )

@@ -35,6 +35,7 @@ record Ended {A : Type 0} (left_out : A → ℕ) (r : Run Want Fault Step A) (n 
   ends : r.ending ≡ Ok value
   counted : n ≡ left_out value
 
+-- a listing that answers that all was done came to its end
 ended : {A : Type 0} (left_out : A → ℕ) (r : Run Want Fault Step A) (n : ℕ) → listed_answer left_out r.ending ≡ Done n → Ended left_out r n
 ended {A = A} left_out r n is = of r.ending refl is
   where
@@ -49,6 +50,7 @@ ended {A = A} left_out r n is = of r.ending refl is
     of (Err (fault.Malformed addr)) e is = absurd (cc is)
     of (Err (fault.NoTree id)) e is = absurd (cc is)
 
+-- over honest images `restore -i` does the committed listing, but for entries that are named with a block that is lost
 pub salvage_is_committed : HonestSalvage → SalvageIsCommitted
 salvage_is_committed law plan dest images fs C counts missed dry opened honest ends answer =
     let r = salvage_run (fate images fs.layout) plan dest fs.sup in
@@ -71,6 +73,7 @@ record IsFound (images : Images) (fs : Filesystem) : Type 0 where
   layout : layout_by start table ≡ fs.layout
 
 module _ (images : Images) (fs : Filesystem) where
+  -- a filesystem by a start and a table that were found is of these, where the root tree's root block doesn't refuse it
   found_by : (start : Start) (table : List Chunk) (o : Option ℕ) → start_of images ≡ Ok start
       → (exec (fate images (array_layout start)) (table_scan start)).ending ≡ Ok (Ok table) → with_roots start table o ≡ Ok fs → IsFound images fs
   found_by start table None starts scanned e = record {
@@ -82,19 +85,23 @@ module _ (images : Images) (fs : Filesystem) where
   }
   found_by start table (Some slot) starts scanned e = absurd (cc e)
 
+  -- the same by whatever the scan of the chunk tree came to
   found_in : (start : Start) (r : Result TableResult Fault) → start_of images ≡ Ok start
       → (exec (fate images (array_layout start)) (table_scan start)).ending ≡ r → with_table images start r ≡ Ok fs → IsFound images fs
   found_in start (Ok (Ok table)) starts scanned e = found_by start table (roots_differ images start (Ok (Ok table))) starts scanned e
   found_in start (Ok (Err refusal)) starts scanned e = absurd (cc e)
   found_in start (Err f) starts scanned e = absurd (cc e)
 
+  -- the same by whatever the superblocks and the array came to
   found_from : (r : Result Start OpenFault) → start_of images ≡ r → with_start images r ≡ Ok fs → IsFound images fs
   found_from (Err refusal) starts e = absurd (cc e)
   found_from (Ok start) starts e = found_in start (exec (fate images (array_layout start)) (table_scan start)).ending starts refl e
 
+  -- the filesystem of some images is that of their start and of the table of their chunk tree
   found : filesystem_of images ≡ Ok fs → IsFound images fs
   found e = found_from (start_of images) refl e
 
+-- a send of images of bytes that is done leaves one stream, which makes what `restore` makes by the rules of `send`
 pub send_is_stream : SentLaw → ImagesGiveSectors → SendIsStream
 send_is_stream law give plan dest name images fs skipped opened bytes named answer =
     let B = fate images fs.layout in

@@ -39,11 +39,13 @@ among {X} {Y} f xs x y here there =
 
 -- ---- of blocks that are met first, each place has one
 
+-- what tests as equal is equal
 is_equal : (o : Ordering) → is_eq o ≡ true → o ≡ Equal
 is_equal Less e = let z : ⊥ = cc in absurd z
 is_equal Equal e = refl
 is_equal Greater e = let z : ⊥ = cc in absurd z
 
+-- places that compare as equal are one
 same_place : (a b : BlockId) → is_eq (place_cmp a b) ≡ true → a ≡ b
 same_place a b e =
     let addr = both_equal (nat_cmp a.addr b.addr) _ (is_equal (place_cmp a b) e) in
@@ -58,6 +60,7 @@ abbrev IsMet : List BlockId → List Reached → Reached → Type 0
 IsMet before firsts one =
     (is_among before (place_of one.place) ≡ true) ⊎ ((other : Reached) × Contains firsts other × (place_of other.place ≡ place_of one.place))
 
+-- a block where one stands, or where some were met before, is met, if that one is among the first
 met_later : (before : List BlockId) (one : Reached) (firsts : List Reached) (x : Reached) (b : Bool)
     → is_eq (place_cmp (place_of x.place) (place_of one.place)) ≡ b
     → (b || is_among before (place_of x.place)) ≡ true → IsMet before (one ∷ firsts) x
@@ -65,11 +68,13 @@ met_later before one firsts x true is e =
     inr (one, Contains-get_or (one ∷ firsts) 0 one (omega arith), sym (same_place (place_of x.place) (place_of one.place) is))
 met_later before one firsts x false is e = inl e
 
+-- what is met once one block was met before is met where that block is among the first
 met_behind : (before : List BlockId) (one : Reached) (firsts : List Reached) (x : Reached) → IsMet (place_of one.place ∷ before) firsts x
     → IsMet before (one ∷ firsts) x
 met_behind before one firsts x (inl e) = met_later before one firsts x _ refl e
 met_behind before one firsts x (inr other) = inr (other.0, Contains-append_right (one ∷ []) firsts other.0 other.1, other.2)
 
+-- each block stands where one was met before, or where one stands that is met first
 all_met : (before : List BlockId) (all : List Reached) → AllByRecursion (IsMet before (first_met before all)) all
 all_met before [] = tt
 all_met before (one ∷ more) =
@@ -90,6 +95,7 @@ all_met before (one ∷ more) =
 -- ---- two blocks at one place are one
 
 module _ (B : Map) (extents : List Extent) where
+  -- two blocks that the map has at one place use the same extents
   same_uses : (a b : Reached) → place_of a.place ≡ place_of b.place → IsBlock B a.place a.block → IsBlock B b.place b.block
       → uses_of extents a ≡ uses_of extents b
   same_uses a b same is-a is-b =
@@ -102,23 +108,29 @@ module _ (B : Map) (extents : List Extent) where
 -- ---- the owners of an address in one of the trees
 
 module _ (sup : Super) (B : Map) (extents : List Extent) (tree : TreeRoot) (is : Contains (trees sup B) tree) where
+  -- the blocks that are met in one tree
   abbrev blocks_of : TreeRoot → List Reached
   blocks_of one = blocks_met (whole B one.place)
 
+  -- the blocks that are met in all trees
   abbrev all_blocks : List Reached
   all_blocks = flat_map blocks_of (trees sup B)
 
+  -- of these each place's first
   abbrev reached_first : List Reached
   reached_first = reached sup B
 
+  -- a block that is met in a tree is the one that the map has at its place
   there : (one : Reached) → Contains all_blocks one → IsBlock B one.place one.block
   there one = All-contains (λ (x : Reached). IsBlock B x.place x.block) all_blocks one
       (All-from_recursion (λ (x : Reached). IsBlock B x.place x.block) all_blocks (trees_there B (trees sup B)))
 
+  -- so is each that is met first
   firsts_there : (one : Reached) → Contains reached_first one → IsBlock B one.place one.block
   firsts_there one = All-contains (λ (x : Reached). IsBlock B x.place x.block) reached_first one
       (All-from_recursion (λ (x : Reached). IsBlock B x.place x.block) reached_first (first_there B [] all_blocks (trees_there B (trees sup B))))
 
+  -- what a block of the trees uses is among all uses, if one that is met first stands at its place
   used_by_all : (leaf : Reached) (one : Use) → Contains all_blocks leaf → Contains (uses_of extents leaf) one → IsMet [] reached_first leaf
       → Contains (uses sup B extents) one
   used_by_all leaf one here link (inl e) = let z : ⊥ = cc in absurd z
@@ -127,6 +139,7 @@ module _ (sup : Super) (B : Map) (extents : List Extent) (tree : TreeRoot) (is :
       Contains-append_right (map root_use (trees sup B)) (flat_map (uses_of extents) reached_first) one
       (among (uses_of extents) reached_first other.0 one other.1 (subst (λ (us : List Use). Contains us one) (sym same) link))
 
+  -- among all uses are those of each block of the tree
   leaf_has : (leaf : Reached) → Contains (blocks_of tree) leaf → HasUsesOf (refers_by_address extents) (uses sup B extents) leaf
   leaf_has leaf met =
       let here : Contains all_blocks leaf = among blocks_of (trees sup B) tree leaf is met in
@@ -136,12 +149,14 @@ module _ (sup : Super) (B : Map) (extents : List Extent) (tree : TreeRoot) (is :
 
 -- ---- a tree that is found by its id is one of them
 
+-- an item that has the root of a tree is read as that tree
 from_item : (item : TreeItem) (tree : TreeRoot) → HasRoot item tree → tree_of_item item ≡ Some tree
 from_item item tree root =
     ap (λ b. if b then option_map (described item.key) (result_ok (root_item_of item.body)) else None) root.kind
     ∙ ap (λ r. option_map (described item.key) (result_ok r)) root.formed
     ∙ ap Some root.is
 
+-- a tree that one of some items is read as is among those that they all are read as
 filtered : (xs : List TreeItem) → AllByRecursion (λ item. (tree : TreeRoot) → tree_of_item item ≡ Some tree → Contains (filter_map tree_of_item xs) tree) xs
 filtered [] = tt
 filtered (item ∷ xs) = (here, later (tree_of_item item) xs (filtered xs))
@@ -161,6 +176,7 @@ filtered (item ∷ xs) = (here, later (tree_of_item item) xs (filtered xs))
         (λ (one : TreeItem). (tree : TreeRoot) → tree_of_item one ≡ Some tree → Contains (cons_option o (filter_map tree_of_item xs)) tree)
         (λ one h tree e. behind o (filter_map tree_of_item xs) tree (h tree e)) others all
 
+-- a tree whose item is met in the root tree is listed
 is_listed : (sup : Super) (B : Map) (item : TreeItem) (tree : TreeRoot) → Contains (items_met (whole B (root_root sup))) item → HasRoot item tree
     → Contains (listed sup B) tree
 is_listed sup B item tree is root =
@@ -168,6 +184,7 @@ is_listed sup B item tree is root =
     let P = λ (one : TreeItem). (other : TreeRoot) → tree_of_item one ≡ Some other → Contains (filter_map tree_of_item items) other in
     All-contains P items item (All-from_recursion P items (filtered items)) is tree (from_item item tree root)
 
+-- a tree that stands in the filesystem is one of all trees
 is_tree : (sup : Super) (B : Map) (tree : TreeRoot) → Stands B sup tree → Contains (trees sup B) tree
 is_tree sup B tree (IsChunkTree e) = subst (Contains (trees sup B)) (sym e) (Contains-get_or (trees sup B) 0 (chunk_tree sup) (omega arith))
 is_tree sup B tree (IsRootTree e) = subst (Contains (trees sup B)) (sym e)
@@ -176,6 +193,7 @@ is_tree sup B tree (IsRootTree e) = subst (Contains (trees sup B)) (sym e)
 is_tree sup B tree (IsListed item is root) =
     Contains-append_right (chunk_tree sup ∷ root_tree sup ∷ []) (listed sup B) tree (is_listed sup B item tree is root)
 
+-- each owner that `logical-resolve` tells is among the references that a check counts
 pub owners_counted : OwnersCounted
 owners_counted sup B extents id tree addr below found =
     let is = is_tree sup B tree (tree_stands B sup id tree below found) in

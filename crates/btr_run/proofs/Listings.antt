@@ -28,13 +28,14 @@ use Rattle.btr_run.specs.Behind.{AnyFault, IfSteady, IsBehind, IsLayoutOf, HasTr
 use Rattle.btr_run.specs.Faults.{tree_answer}
 use Rattle.btr_run.specs.Filesystem.{IsRefusal, MayMend, OpensAs, OpensFilesystem, filesystem_in, filesystem_of}
 use Rattle.btr_run.specs.Listed.{ListsUpTo, listed_answer, listed_by, stopped_answer}
-use Rattle.btr_run.specs.Outcomes.{Outcome, refused, HasOneOutcome, HasEnded, How, IsFirstPart, IsNoFault, Stands, StandsOf, StandsPartly, Whole}
+use Rattle.btr_run.specs.Outcomes.{Outcome, refused, HasOneOutcome, HasEnded, How, IsFirstPart, IsNoFault, DidAndTold, StandsOf, StandsPartly, Whole}
 use Rattle.btr_run.specs.Outcomes.{SinkFailed, OutFailed}
 use Rattle.btr_run.specs.Outcomes.{OrBare, OrMemory, Wanted}
 use Rattle.btr_run.specs.declared.answer.Answer.{Answer}
 use Rattle.btr_run.specs.declared.answer.Answer.TheVariants.{Done, NoTree, ImageFault, Memory, OutFault, SinkFault, Unread}
 use Rattle.btr_run.proofs.Agreements.{agreeing_opened}
-use Rattle.btr_run.proofs.Coming.{comes_also, comes_bare, when_told, whole_first}
+use Rattle.btr_run.proofs.Coming.{comes_also, comes_bare, whole_first}
+use Rattle.btr_read.proofs.Fetched.{map_some}
 use Rattle.btr_run.proofs.Refusals.{open_line, open_no_fault}
 use Rattle.btr_run.proofs.Faulting.{tree_in, tree_back}
 use Rattle.btr_run.proofs.Shows.{fault_no_fault, none_left}
@@ -60,6 +61,7 @@ broken_off r done b =
     of (Some left) (Wants w ∷ ms) leaves = absurd leaves
     of (Some left) (Does step ∷ ms) leaves = leaves
 
+-- that all was done is no fault of the output or of the sink
 pub done_no_fault : (n : ℕ) → IsNoFault (Done n)
 done_no_fault n = record { no_out = λ e. cc; no_sink = λ e. cc }
 
@@ -76,49 +78,57 @@ lists_up_to layout old new r u upto rest place named =
 
 -- the filesystem isn't opened
 module _ (May : Type 0) (answer result : Answer) (is : result ≡ answer) (refusal : IsRefusal answer) where
+  -- the refusal is no fault of the output or of the sink
   no_fault : IsNoFault answer
   no_fault = subst IsNoFault (sym refusal.is) (open_no_fault refusal.refusal)
 
+  -- where no call failed, the answer is what the command comes to over the images, or memory was wanted
   pub unopened_effect : (wanted : Images → Outcome) → ((images : Images) (a : Answer) → filesystem_of images ≡ Err a → wanted images ≡ refused a)
       → (old new : Account) (held : Option Images) (x : Outside) → IfSteady held old new (λ images. OpensFilesystem images (Err answer))
       → IfSteady held old new (λ images. HasOneOutcome May (OrMemory (λ outcome. wanted images ≡ outcome)) x x result)
   unopened_effect wanted bare old new held x =
-      when_told held (λ images. Steady old.faults new.faults → OpensFilesystem images (Err answer))
+      map_some held (λ images. Steady old.faults new.faults → OpensFilesystem images (Err answer))
       (λ images. Steady old.faults new.faults → HasOneOutcome May (OrMemory (λ outcome. wanted images ≡ outcome)) x x result)
       (λ images opens steady. subst (λ a. HasOneOutcome May (OrMemory (λ outcome. wanted images ≡ outcome)) x x a) (sym is)
       (comes_bare May (OrMemory (λ outcome. wanted images ≡ outcome)) x answer
       (⊎_elim (λ none. inl (bare images answer none)) (λ want. inr (ap refused want)) (opens steady)) no_fault))
 
+  -- whatever failed, the answer is a refusal before anything else
   pub unopened_told : (IsOne : Outcome → Type 0) (x : Outside) → HasOneOutcome May (OrBare IsOne) x x result
   unopened_told IsOne x =
       subst (λ a. HasOneOutcome May (OrBare IsOne) x x a) (sym is)
       (comes_bare May (OrBare IsOne) x answer (inr (refl, λ e. open_line refusal.refusal (ap error_line (sym refusal.is) ∙ e))) no_fault)
 
 -- The filesystem is open, and a call did these steps.
-module _ {A : Type 0} (left_out : A → ℕ) (layout : Layout) (mid new : Seen) (x y : Outside) (done : List Step) (stands : Stands x y done [])
+module _ {A : Type 0} (left_out : A → ℕ) (layout : Layout) (mid new : Seen) (x y : Outside) (done : List Step) (stands : DidAndTold x y done [])
     (result : Result A Stop)
     (cause : RestoreStopCause layout mid new result) (sink_calls : SinkCounts x.sink_calls y.sink_calls result)
     (out_calls : OutCounts x.out_calls y.out_calls result) where
+  -- the answer of a call, by what is left out
   abbrev answered : Result A Stop → Answer
   answered r = stopped_answer left_out r
 
+  -- the block of a want could not be read in these calls
   abbrev Is : UnreadBlock → Want → Type 0
   Is = unread_by layout mid new
 
+  -- the answer of a listing by its end is no fault of the output or of the sink
   listed_no_fault : (e : Result A Fault) → IsNoFault (listed_answer left_out e)
   listed_no_fault (Ok a) = done_no_fault (left_out a)
   listed_no_fault (Err f) = fault_no_fault f
 
   -- it follows a run
   module _ (r : Run Want Fault Step A) (IsOne : Outcome → Type 0) (one : IsOne (listed_by left_out r)) (unread : HasUnread Is r IsOne) where
+    -- what the run comes to came, ended in one of the ways
     ends : (how : How) (answer : Answer) → HasEnded (Unit {0}) x y (listed_by left_out r) answer how → HasOneOutcome (Unit {0}) IsOne x y answer
     ends how answer ended =
         record { outcome = listed_by left_out r; is_one = one; no_fault = listed_no_fault r.ending; how = how; ended = ended }
 
+    -- a call that went to the run's end came to all of it
     wholly : (ending : Result A Fault) (answer : Answer) → answer ≡ listed_answer left_out ending → (done ≡ steps_of r.marks) × (r.ending ≡ ending)
         → y.sink_calls ≡ x.sink_calls → y.out_calls ≡ x.out_calls → HasOneOutcome (Unit {0}) IsOne x y answer
     wholly ending answer is follows same_sink same_out =
-        ends Whole answer (is ∙ ap (listed_answer left_out) (sym follows.1), same_sink, same_out, subst (λ l. Stands x y l []) follows.0 stands)
+        ends Whole answer (is ∙ ap (listed_answer left_out) (sym follows.1), same_sink, same_out, subst (λ l. DidAndTold x y l []) follows.0 stands)
 
     -- what it comes to up to a block that could not be read
     up_to : (u : UnreadBlock) → Breaks no_part (λ ws. Names Is u ([] ++ ws)) r done → y.sink_calls ≡ x.sink_calls → y.out_calls ≡ x.out_calls
@@ -132,14 +142,16 @@ module _ {A : Type 0} (left_out : A → ℕ) (layout : Layout) (mid new : Seen) 
         refl,
         same_sink,
         same_out,
-        subst (λ l. Stands x y l [])
+        subst (λ l. DidAndTold x y l [])
             (broke.steps ∙ none_left (steps_of broke.before) broke.left broke.behind broke.leaves) stands,
       );
     }
 
+    -- where the run was broken off, a first part of its steps stands
     partly : Breaks part (λ ws. Unit {0}) r done → StandsPartly x y (listed_by left_out r) []
     partly broke = record { done = done; first = broken_off r done broke; stands = stands }
 
+    -- a call that follows a run comes to what this comes to, or to it up to a block that could not be read, or to a first part of it
     pub follows_come : Follows Is part [] r done (ended result) → HasOneOutcome (Unit {0}) IsOne x y (answered result)
     follows_come = of result cause sink_calls out_calls
       where
@@ -177,13 +189,16 @@ module _ {A : Type 0} (left_out : A → ℕ) (layout : Layout) (mid new : Seen) 
     abbrev broken : Outcome
     broken = record { answer = tree_answer (tree.Lost 0); steps = done }
 
+    -- the steps that were done are a first part of themselves
     all : StandsPartly x y broken []
     all = record { done = done; first = whole_first done; stands = stands }
 
+    -- where they were broken off, an outcome of this kind came, or a first part of it
     breaks : (how : How) (a : Answer) → HasEnded (Unit {0}) x y broken a how → HasOneOutcome (Unit {0}) (OrBare IsOne) x y a
     breaks how a ended =
         record { outcome = broken; is_one = inl (by_tree (tree.Lost 0)); no_fault = tree_no_fault (tree.Lost 0); how = how; ended = ended }
 
+    -- whatever the call answered, an outcome of this kind came, or a first part of it
     pub some_come : HasOneOutcome (Unit {0}) (OrBare IsOne) x y (answered result)
     some_come = of result refl cause sink_calls out_calls
       where
@@ -198,6 +213,7 @@ module _ {A : Type 0} (left_out : A → ℕ) (layout : Layout) (mid new : Seen) 
         of (Err stop.Memory) is cause sc oc = breaks Wanted Memory (refl, tt, sc, oc, all)
         of (Err other) is cause sc oc = absurd cause
 
+  -- the call doesn't answer that an image failed
   no_image : (slot : ℕ) → answered result ≢ ImageFault slot
   no_image slot = of result cause
     where
@@ -206,6 +222,7 @@ module _ {A : Type 0} (left_out : A → ℕ) (layout : Layout) (mid new : Seen) 
       of (Err (stop.Image other)) cause e = absurd cause
       of r cause e = cc
 
+  -- the call answers nothing that the words or the superblocks alone decide
   none_of : NoneOf (answered result)
   none_of = of result
     where
@@ -216,6 +233,7 @@ module _ {A : Type 0} (left_out : A → ℕ) (layout : Layout) (mid new : Seen) 
   -- since the filesystem was opened
   module _ (old : Seen) (first : OnlyReads old mid) (second : OnlyReads mid new) (volume : Volume) (is_layout : volume.store.layout ≡ layout) (answer : Answer)
       (is : answer ≡ answered result) where
+    -- a fault of a tree that the call answers has its cause by the layout
     tree_cause : IsLayoutOf old new layout → HasTreeCause old new (answered result)
     tree_cause own fault is = (layout, own, of result cause (ap tree_in is ∙ tree_back fault))
       where
@@ -229,6 +247,7 @@ module _ {A : Type 0} (left_out : A → ℕ) (layout : Layout) (mid new : Seen) 
         of (Err stop.Memory) cause e = absurd (cc e)
         of (Err other) cause e = absurd cause
 
+    -- the images were only read, and a fault of a tree that is answered has its cause
     pub listed_behind : IsLayoutOf old new layout → IsBehind MayMend AnyFault old new answer
     listed_behind own = subst (IsBehind MayMend AnyFault old new) (sym is) (record {
       reads = reads_more first second;
@@ -239,6 +258,7 @@ module _ {A : Type 0} (left_out : A → ℕ) (layout : Layout) (mid new : Seen) 
       no_limit = λ n e. subst NoneOf e none_of;
     })
 
+    -- whatever failed, the command came to an outcome of these steps, or to a first part of it
     pub listed_told : (IsOne : Outcome → Type 0) → ((a : A) → IsOne (record { answer = Done (left_out a); steps = done }))
         → ((f : TreeFault) → IsOne (record { answer = tree_answer f; steps = done }))
         → ((id : ℕ) → result ≡ Err (stop.NoTree id) → IsOne (record { answer = NoTree id; steps = done })) → HasOneOutcome (Unit {0}) (OrBare IsOne) x y answer
@@ -246,12 +266,14 @@ module _ {A : Type 0} (left_out : A → ℕ) (layout : Layout) (mid new : Seen) 
 
     -- where no read failed
     module _ (run : Images → Run Want Fault Step A) where
+      -- a call that follows the images' run comes to it
       steadily : (images : Images) → Steady mid.account.faults new.account.faults → Follows Is part [] (run images) done (ended result)
           → HasOneOutcome (Unit {0}) (λ outcome. listed_by left_out (run images) ≡ outcome) x y (answered result)
       steadily images steady follows =
           follows_come (run images) (λ outcome. listed_by left_out (run images) ≡ outcome) refl
           (λ u upto rest place named. absurd (none_unread layout mid new steady u (wants_of upto) named)) follows
 
+      -- the command comes to what the images come to, or memory was wanted
       pub listed_effect : (wanted : Images → Outcome)
           → ((images : Images) → filesystem_of images ≡ Ok (filesystem_in volume) → wanted images ≡ listed_by left_out (run images))
           → IfSteady mid.held mid.account new.account (λ images. Follows Is part [] (run images) done (ended result))
@@ -276,6 +298,7 @@ module _ {A : Type 0} (left_out : A → ℕ) (layout : Layout) (mid new : Seen) 
 
     -- where the images agree; there may be several runs, as by several candidates of a sector that is tested by nothing
     module _ (IsRun : Images → Run Want Fault Step A → Type 0) where
+      -- the command comes to one of the images' runs, or to it up to a block that could not be read
       pub listed_agreed : (IsOne : Images → Outcome → Type 0)
           → ((images : Images) → filesystem_of images ≡ Ok (filesystem_in volume) → (r : Run Want Fault Step A) → IsRun images r
           → IsOne images (listed_by left_out r))

@@ -19,6 +19,7 @@ on : (f g : Stage → Option Stage) → ((s : Stage) → f s ≡ g s) → (o : O
 on f g e None = refl
 on f g e (Some s) = e s
 
+-- going on from a place, and then on from there, is one way on
 and_then_twice : (f g : Stage → Option Stage) (o : Option Stage) → option_and_then (λ s. option_and_then g (f s)) o ≡ option_and_then g (option_and_then f o)
 and_then_twice f g None = refl
 and_then_twice f g (Some s) = refl
@@ -32,6 +33,7 @@ reached-append (word ∷ before) words s at end is =
     (λ p. reached-append before words p (at + 1) end (omega (arith, is))) (step s at word)
     ∙ and_then_twice (λ p. reached p (at + 1) before) (λ q. reached q end words) (step s at word)
 
+-- behind words that led to a place the words lead on from there
 pub reached_from : (before words : Words) (s next : Stage) (at end : ℕ) → at + length before ≡ end → reached s at before ≡ Some next
     → reached s at (before ++ words) ≡ reached next end words
 reached_from before words s next at end is e =

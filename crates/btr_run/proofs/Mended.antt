@@ -45,16 +45,19 @@ abbrev pub shown_of : Result Tally Stop → Outcome
 shown_of (Ok tally) = showing (tally_shown tally)
 shown_of (Err end) = refused (stop_answer end)
 
+-- what a scrub comes to by the end of its listing is the answer of its effect
 ended_as : (write : Bool) (images : Images) (fs : scrubbed.Filesystem) (r : Result (Unit {0}) Fault)
     → scrub_ended write images fs r ≡ shown_of (effect_of_ending write images fs r).answer
 ended_as write images fs (Err (fault.Lost a)) = refl
 ended_as write images fs ending = refl
 
+-- the same where a device may be missing
 unless_as : (write : Bool) (images : Images) (fs : scrubbed.Filesystem) (o : Option Stripe)
     → scrub_unless write images fs o ≡ shown_of (effect_unless write images fs o).answer
 unless_as write images fs (Some stripe) = refl
 unless_as write images fs None = ended_as write images fs (meeting images fs).ending
 
+-- where a clause holds of something that is there, something is there of which it holds
 some_left : {X : Type 0} (o : Option X) (P : X → Type 0) → IsSomeAnd o P → (x : X) × P x
 some_left None P h = absurd h
 some_left (Some x) P h = (x, h)
@@ -64,6 +67,7 @@ module _ (write : Bool) (old mid new : Seen) (first : OnlyReads old mid) (volume
     (done : IsScrubbed (called volume write mid new result))
     (missing : IfSome (first_missing volume.store.layout) (λ stripe. (result ≡ Err (stop.Missing stripe.devid)) × (new ≡ mid)))
     (scrubs : first_missing volume.store.layout ≡ None → ScrubsAll volume.sup volume.store.layout write mid new result) where
+  -- the volume's filesystem as it is scrubbed
   abbrev fs : scrubbed.Filesystem
   fs = filesystem_as (filesystem_in volume)
 
@@ -73,11 +77,13 @@ module _ (write : Bool) (old mid new : Seen) (first : OnlyReads old mid) (volume
   -- a block that could not be read is one that is wanted where the checked blocks are listed
   module _ (images : Images) (told : mid.held ≡ Some images) (o : filesystem_of images ≡ Ok (filesystem_in volume)) (agreed : Agreed images layout)
       (addr slot : ℕ) (is : result ≡ Err (stop.Tree (tree.Unread addr slot))) where
+    -- a scrub whose listing was made doesn't answer that a block could not be read
     is_listed : (ended : Result (Unit {0}) MendFault) (tally : Tally) → result ≡ whole.answer_of ended tally → ⊥
     is_listed (Ok u) tally says = cc (sym says ∙ is)
     is_listed (Err (mend.Image s)) tally says = cc (sym says ∙ is)
     is_listed (Err mend.Memory) tally says = cc (sym says ∙ is)
 
+    -- a block that is refused for its place isn't answered as one that could not be read
     unread_refused : (f : TreeFault) (from : ℕ) (want : Want) → result ≡ Err (stop.Tree f) → IsRefused layout from want f → ⊥
     unread_refused (tree.Lost a) from want e u = u
     unread_refused (tree.Unread a s) from want e u = u
@@ -85,9 +91,11 @@ module _ (write : Bool) (old mid new : Seen) (first : OnlyReads old mid) (volume
     unread_refused (tree.Crosses a) from want e u = cc (sym e ∙ is)
     unread_refused (tree.Malformed a) from want e u = cc (sym e ∙ is)
 
+    -- so it is with the first block of a list that is refused
     is_refused : (f : TreeFault) (wants : List Want) → result ≡ Err (stop.Tree f) → IsFirstRefused layout 0 wants f → ⊥
     is_refused f wants e r = let one = refused_one layout 0 wants f r in unread_refused f one.0 one.1.0 e one.1.1
 
+    -- the listing was stopped there, at a block that it wants
     by : (at : Seen) (met : List Met) (l : Listing) → Goes volume.sup layout write mid at new met result l → LacksUnits images (refused (Unread addr slot))
     by at met Listed g = absurd (is_listed g.1.ended g.1.tally g.1.says)
     by at met (Failed other) g = cc (sym g.0 ∙ is)
@@ -105,6 +113,7 @@ module _ (write : Bool) (old mid new : Seen) (first : OnlyReads old mid) (volume
           bare = refl;
         }
 
+    -- whether a device is missing or none, the block is one that the listing wants
     lacks : LacksUnits images (refused (Unread addr slot))
     lacks = of (first_missing layout) refl missing
       where
@@ -114,12 +123,15 @@ module _ (write : Bool) (old mid new : Seen) (first : OnlyReads old mid) (volume
         of None e gone = let s = scrubs e in by s.mid s.done s.listing s.goes
 
   module _ (images left : Images) (o : filesystem_of images ≡ Ok (filesystem_in volume)) where
+    -- what a scrub comes to is the answer of its effect on the images
     outcome_is : scrub_outcome write images ≡ shown_of (effect write images fs).answer
     outcome_is = outcome_by write images ∙ ap (scrub_in write images) o ∙ unless_as write images fs (first_missing fs.layout)
 
+    -- an answer that is the effect's is what the scrub comes to
     same : (r : Result Tally Stop) → result ≡ r → HasEffect (called volume write mid new result) images left → scrub_outcome write images ≡ shown_of r
     same r is h = outcome_is ∙ ap shown_of (sym h.answer ∙ is)
 
+    -- the same of each answer over images that agree, but for a block that could not be read, a failed image and want of memory
     to : mid.held ≡ Some images → Agreed images layout → (r : Result Tally Stop) → result ≡ r → AnswersAs (called volume write mid new result) images left r
         → ScrubsAgreed write images (answered r)
     to told agreed (Ok tally) is h = same (Ok tally) is h
@@ -137,6 +149,7 @@ module _ (write : Bool) (old mid new : Seen) (first : OnlyReads old mid) (volume
     to told agreed (Err stop.Sink) is h = absurd h
     to told agreed (Err stop.Out) is h = absurd h
 
+  -- over images that agree a scrub is done with their counts or refusal, or says what could not be read, or that there is no memory
   pub scrubs_agreed : IfSome old.held (λ images. AreAgreed images → ScrubsAgreed write images (answered result))
   scrubs_agreed = agreeing_opened old mid volume opens (λ images. ScrubsAgreed write images (answered result)) (λ images told o agreed.
       let held : mid.held ≡ Some images = ap (λ (s : Seen). s.held) first.same ∙ told in

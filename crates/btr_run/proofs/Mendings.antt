@@ -1,12 +1,12 @@
 -- What a scrub comes to.
 use Rattle.std.proofs.Common.{◌≡◌, ◌≢◌, ◌⊎◌, inl, inr, ⊎_elim, ℕ, Bool, List, [], ◌∷◌, ◌++◌, fold, Option, Some, None, Result, Ok, Err, refl, sym, ap, ◌∙◌}
-use Rattle.std.proofs.Common.{subst, arith}
+use Rattle.std.proofs.Common.{subst}
 use Rattle.std.specs.Option.{IfSome}
 use Rattle.std.proofs.lemmas.List.{append-nil}
 use Rattle.btr_scrub_copies.specs.Turns.{waiting}
 use Rattle.btr_scrub_copies.specs.Writes.{In, IsStopped, IsTorn, LeaveImages, Write, write_on}
 use Rattle.btr_scrub_copies.specs.declared.mended.MendFault.{MendFault}
-use Rattle.btr_rack.specs.Rack.{NoneFailed, OnlyReads, Rose, Seen, Steady}
+use Rattle.btr_rack.specs.Rack.{NoneFailed, OnlyReads, Seen, Steady}
 use Rattle.btr_scrub.specs.declared.tally.Tally.{Tally}
 use Rattle.btr_volume.specs.Opening.{SuperUnread}
 use Rattle.btr_volume.specs.Start.{Images}
@@ -25,48 +25,48 @@ use Rattle.btr_run.specs.declared.answer.Answer.TheVariants.{ImageFault, Memory,
 use Rattle.btr_run.specs.declared.plan.Command.TheVariants.{Scrub}
 use Rattle.btr_run.proofs.Carrying.{as_they_were}
 use Rattle.btr_run.proofs.Found.{found_line}
-use Rattle.btr_run.proofs.Coming.{when_told}
+use Rattle.btr_read.proofs.Fetched.{map_some}
 use Rattle.btr_run.proofs.Performing.{only_reads}
 use Rattle.btr_run.proofs.Refusals.{open_line, open_no_fault}
 use Rattle.btr_run.proofs.TreesShown.{unopened_behind}
+use Rattle.btr_trial.proofs.Filesystems.{images_in}
 
 -- what the call answers, as the command has it
 abbrev pub answered : Result Tally Stop → Result Tally Answer
 answered (Ok tally) = Ok tally
 answered (Err end) = Err (stop_answer end)
 
-pub steady_not_rose : (before now : ℕ) → Steady before now → Rose before now → ⊥
-steady_not_rose before now steady rose = omega (arith, steady.0, steady.1, rose.0, rose.1)
-
 -- a clause on what is told, by what it is
 pub each_told : {X : Type 0} (o : Option X) (Q : X → Type 0) → ((x : X) → o ≡ Some x → Q x) → IfSome o Q
 each_told None Q f = tt
 each_told (Some x) Q f = f x refl
 
+-- what holds where something is told holds of what is told
 pub told_at : {X : Type 0} (o : Option X) (Q : X → Type 0) (x : X) → o ≡ Some x → IfSome o Q → Q x
 told_at o Q x is told = subst (λ (p : Option _). IfSome p Q) is told
-
-pub the_images : (a b : Images) → ◌≡◌ {A = Option Images} (Some a) (Some b) → a ≡ b
-the_images a b e = cc e
 
 -- what a scrub comes to, leaves and writes, by the filesystem of the images
 pub outcome_by : (write : Bool) (images : Images) → scrub_outcome write images ≡ scrub_in write images (filesystem_of images)
 unfolding scrub_outcome
 outcome_by write images = refl
 
+-- the images behind a scrub that writes, by the filesystem of the images before
 pub images_by : (images : Images) → scrubbed_images images ≡ scrubbed_in images (filesystem_of images)
 unfolding scrubbed_images
 images_by images = refl
 
+-- the writes that mend the images, by their filesystem
 pub writes_by : (images : Images) → mending_writes images ≡ writes_in images (filesystem_of images)
 unfolding mending_writes
 writes_by images = refl
 
 -- nothing was written
 module _ (write : Bool) (old new : Seen) (answer : Answer) (reads : OnlyReads old new) (behind : IsBehindCommand (Scrub write) old new answer) where
+  -- the images are as they were
   same_held : new.held ≡ old.held
   same_held = ap (λ (s : Seen). s.held) reads.same
 
+  -- a scrub that ended with a refusal, or with want of memory, and only read was done
   pub left_alone : IsBare answer → IfSteady old.held old.account new.account (λ images. ScrubsTo write images (Err answer)) → Scrubs write old new (Err answer)
   left_alone bare content = record {
     content = content;
@@ -84,11 +84,12 @@ module _ (write : Bool) (old new : Seen) (answer : Answer) (reads : OnlyReads ol
         left = each_told old.held (λ images. IfSome new.held (λ left. LeavesImages (Steady old.account.faults new.account.faults) images left answer))
             (λ images told. each_told new.held (λ left. LeavesImages (Steady old.account.faults new.account.faults) images left answer)
             (λ left told'. as_they_were (Steady old.account.faults new.account.faults) images left answer
-            (λ lost e. bare.line (ap error_line e ∙ found_line lost)) (the_images left images (sym told' ∙ same_held ∙ told))));
+            (λ lost e. bare.line (ap error_line e ∙ found_line lost)) (images_in left images (sym told' ∙ same_held ∙ told))));
         synced = λ lost e. absurd (bare.line (ap error_line e ∙ found_line lost));
         waits = λ none. inl (λ range there. inl (subst (λ (s : Seen). In range (waiting s)) reads.same there));
       }
 
+-- the same, by what lies behind the answer of a command that only reads
 pub unwritten : (write : Bool) (old new : Seen) (answer : Answer) → IsBehind MayMend IsNoCrossing old new answer → IsBare answer
     → IfSteady old.held old.account new.account (λ images. ScrubsTo write images (Err answer)) → Scrubs write old new (Err answer)
 unwritten write old new answer behind = left_alone write old new answer behind.reads (only_reads (Scrub write) old new answer behind)
@@ -107,7 +108,7 @@ not_opened write old new answer result is refusal reads image cause hidden count
       line = λ e. open_line refusal.refusal
           (ap error_line (sym refusal.is) ∙ e);
     })
-    (when_told old.held (λ images. Steady old.account.faults new.account.faults → OpensFilesystem images (Err answer))
+    (map_some old.held (λ images. Steady old.account.faults new.account.faults → OpensFilesystem images (Err answer))
     (λ images. Steady old.account.faults new.account.faults → ScrubsTo write images (Err answer))
     (λ images opens steady. ⊎_elim (λ none. inl (outcome_by write images ∙ ap (scrub_in write images) none, images_by images ∙ ap (scrubbed_in images) none))
     (λ want. inr want) (opens steady)) content))
@@ -129,5 +130,5 @@ left_nothing (Some images) (Some left) (Err e) leaves = ap (λ (i : Images). Som
 pub stop_place : (ws : Images → List Write) (images left : Images) (e : Result (Unit {0}) MendFault) → LeaveImages ws (Some images) (Some left) e
     → IsStopped (ws images) images left
 stop_place ws images left (Ok u) leaves = record
-    { before = ws images; behind = []; place = sym (append-nil (ws images)); stands = inl (the_images left (fold write_on images (ws images)) leaves) }
+    { before = ws images; behind = []; place = sym (append-nil (ws images)); stands = inl (images_in left (fold write_on images (ws images)) leaves) }
 stop_place ws images left (Err e) leaves = leaves

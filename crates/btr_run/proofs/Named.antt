@@ -41,16 +41,20 @@ IsNamed whole left read = HasFile left ⊎ IsFileAt whole read.file
 
 -- behind one part
 module _ (whole before taken rest words : Words) (at : ℕ) (place : at ≡ length before) (is : whole ≡ before ++ words) (split : words ≡ taken ++ rest) where
+  -- the words behind a part have the number behind its own
   next_place : at + length taken ≡ length (before ++ taken)
   next_place = omega (arith, place, length-append before taken)
 
+  -- they are what is left of all words behind those before and the part's own
   next_is : whole ≡ (before ++ taken) ++ rest
   next_is = is ∙ ap (λ l. before ++ l) split ∙ sym (append_assoc before taken rest)
 
+-- a word behind some others has their count as its number
 word_there : (whole before : Words) (word : List ℕ) (rest : Words) (at : ℕ) → at ≡ length before → whole ≡ before ++ word ∷ rest → get_or whole at [] ≡ word
 word_there whole before word rest at place is = ap (λ n. get_or whole n []) place ∙ ap (λ l. get_or l (length before) []) is
     ∙ get_or-append_seam before word rest []
 
+-- behind parts that name a file, or before which one was named, the word of its number is such a name
 file_named : (whole before : Words) (left : List Part) (at : ℕ) (words : Words) (old new : Read) → at ≡ length before → whole ≡ before ++ words
     → ReadsParts left at words old new
     → IsNamed whole left old → IsFileAt whole new.file
@@ -79,7 +83,7 @@ file_named whole before (File ∷ left) at words old new place is reads named =
 file_named whole before (Volume ∷ left) at words old new place is reads named =
     ⊎_elim (λ none. absurd none) (λ there. subst (IsFileAt whole) (sym (ap (λ (r : Read). r.file) reads.5)) there) named
 
-both : (a b : Bool) → (a && b) ≡ true → (a ≡ true) × (b ≡ true)
+pub both : (a b : Bool) → (a && b) ≡ true → (a ≡ true) × (b ≡ true)
 both true b e = (refl, e)
 both false b e = absurd (cc e)
 
@@ -97,6 +101,7 @@ stream_name word is =
 volume_size : (n : ℕ) → is_volume n ≡ true → (1 ≤ n) × (n ≤ 1000)
 volume_size n is = let tests = both (nat_le 1 n) (nat_le n 1000) is in (grind (arith, nat_tests, tests.0), grind (arith, nat_tests, tests.1))
 
+-- of each form, what its command asks for of the words that were read is so
 named : (sentence : Sentence) (words : Words) (read : Read) → AreThere read (length words)
     → ReadsParts (parts_of sentence) 0 words (nothing_of sentence) read → IsFit (command_of sentence read) words
 named Restore words read there is = of read.options.salvage
@@ -112,6 +117,7 @@ named Send words read there is = (
 named SelfTest words read there is = subst (λ n. (1 ≤ n) × (n ≤ 1000)) (sym (ap (λ (r : Read). r.number) is.5.5)) (volume_size is.5.0 is.5.3)
 named sentence words read there is = tt
 
+-- what a command asks for of its words holds of a sentence
 pub is_fit : (plan : Plan) (words : Words) → IsSentence plan words → IsFit plan.command words
 is_fit plan words s = subst (λ (p : Plan). IsFit p.command words) (sym s.plan_is) (named s.sentence words s.read (are_there plan words s) s.is_read)
 
@@ -130,6 +136,7 @@ all_read words read is = omega (
   ap (λ (l : Words). length l) is.5.4,
 )
 
+-- a self-test names no image, and so not too many
 pub none_named : (plan : Plan) (words : Words) (number : ℕ) → IsSentence plan words → plan.command ≡ command.SelfTest number
     → most_images < length (images_of plan words) → ⊥
 none_named plan words number s is many =

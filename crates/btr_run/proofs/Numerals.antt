@@ -11,6 +11,7 @@ use Rattle.std.proofs.lemmas.Fmt.{decimal_is_IsNumeral}
 use Rattle.std.proofs.lemmas.Slice.Eq.{bytes_eq-Decides}
 use Rattle.btr_run.specs.Numbers.{IsNumber, number_if, number_of}
 
+-- a number that is read by its digits is that of the word
 if_sound : (m n : ℕ) (word : List ℕ) → number_if m word ≡ Some n → IsNumber n word
 if_sound m n word = of (ltb m (2 ^ 64)) refl (bytes_eq word (decimal m)) (bytes_eq-Decides word (decimal m))
   where
@@ -25,6 +26,7 @@ pub number_sound : (n : ℕ) (word : List ℕ) → number_of word ≡ Some n →
 unfolding number_of
 number_sound n word e = if_sound (digits_value 10 word) n word e
 
+-- a number of 64 bits is one by the test
 small_number : (n : ℕ) → n < 2 ^ 64 → ltb n (2 ^ 64) ≡ true
 small_number n lt = grind (arith, nat_tests)
 

@@ -62,27 +62,35 @@ module _ {R T O : Type 0} (eyes : Eyes R T O) (words : Words) (old : Given R T O
   module _ (plan : Plan) (sentence : IsSentence plan words) (number : ℕ) (is : plan.command ≡ SelfTest number) (volume : Option Images) (out : O)
       (answer : Answer)
       (comes : HasOneOutcome (Unit {0}) (IsTrialOf volume number) (outside_in eyes old) (outside_in eyes (record old { out = out })) answer) where
+    -- the sink and the output before the self-test
     abbrev x : Outside
     x = outside_in eyes old
 
+    -- the sink and the output behind the self-test
     abbrev y : Outside
     y = outside_in eyes (record old { out = out })
 
+    -- the words ask for this self-test
     asks : AsksToTry words number
     asks = record { plan = plan; sentence = sentence; command = is }
 
+    -- the answer speaks of no image, no tree and no words
     plain : IsPlain answer
     plain = is_plain volume number x y answer comes
 
+    -- a self-test may want memory
     may : Unit {0} → MayWantBy words x.out_calls
     may t = inr (plan, sentence, subst (λ c. MayWant c words x.out_calls) (sym is) tt)
 
+    -- the words ask for no command that takes images
     other : (p : Plan) → IsSentence p words → TakesImages p.command → ⊥
     other p s takes = no_trial words p number s asks takes
 
+    -- the words don't ask to write into images
     never_writes : AsksToWrite words → ⊥
     never_writes write = cc (sym write.2 ∙ ap opens_to_write (its_command words write.0 number write.1 asks))
 
+    -- the self-test was done, and the rack and the sink are as they were
     pub has_tried : HasTried (ends old.rack old.tree out answer) volume
     has_tried n tries = (
       refl,
@@ -93,6 +101,7 @@ module _ {R T O : Type 0} (eyes : Eyes R T O) (words : Words) (old : Given R T O
         same : (n : ℕ) → SelfTest number ≡ SelfTest n → number ≡ n
         same n e = cc e
 
+    -- by a self-test the words were obeyed
     pub tried : AreUnchanged (eyes.seen old.rack).shelf (eyes.seen old.rack).slots (eyes.seen old.rack).held → IsObeyed (ends old.rack old.tree out answer)
     tried unchanged = record {
       effect = carrying.all_told (eyes.seen old.rack).shelf _ (λ s steady.
@@ -113,7 +122,7 @@ module _ {R T O : Type 0} (eyes : Eyes R T O) (words : Words) (old : Given R T O
       alone = λ never. refl;
       cause = plain_cause words (eyes.seen old.rack) answer plain;
       unchanged = λ never. unchanged;
-      repaired = carrying.all_told (eyes.seen old.rack).shelf _ (λ s calm enough images from. absurd (other _ from.sentence (λ n e. cc)));
+      repaired = carrying.all_told (eyes.seen old.rack).shelf _ (λ s unfailing enough images from. absurd (other _ from.sentence (λ n e. cc)));
       left = λ asks. absurd (never_writes asks);
       synced = λ asks. absurd (never_writes asks);
       waits = λ asks. absurd (never_writes asks);
@@ -121,6 +130,7 @@ module _ {R T O : Type 0} (eyes : Eyes R T O) (words : Words) (old : Given R T O
 
   -- the images aren't open
   module _ (names : Words) (plan : Plan) (sentence : IsSentence plan words) (named : images_of plan words ≡ names) where
+    -- where the images aren't open, the words were obeyed by the answer of that
     pub unopened : (rack : R) (fault : OpeningFault) → HasTooMany names (Err fault)
         → OpeningCause (opens_to_write plan.command) names (eyes.seen old.rack) (eyes.seen rack) (Err fault)
         → (most_images < length names → rack ≡ old.rack)

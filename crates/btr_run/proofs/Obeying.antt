@@ -36,14 +36,16 @@ use Rattle.btr_run.specs.declared.opening.OpeningFault.TheVariants.{TooMany, Fai
 use Rattle.btr_volume.specs.declared.which.Which.TheVariants.{Images as images_limit}
 use Rattle.btr_run.specs.declared.answer.Answer.{Answer}
 use Rattle.btr_run.specs.declared.answer.Answer.TheVariants.{Limit, ImageFault, Memory}
-use Rattle.btr_run.proofs.Causing.{none_failed_twice, opened_again}
+use Rattle.btr_run.proofs.Causing.{opened_again}
+use Rattle.btr_volume.proofs.Readings.{none_failed_twice}
 use Rattle.btr_run.proofs.Coming.{comes_bare, comes_also}
 use Rattle.btr_run.proofs.Faulting.{no_tree}
 use Rattle.btr_run.proofs.Openings.{Images}
 use Rattle.btr_run.proofs.Orders.{nothing_done, nothing_stands}
 use Rattle.btr_run.proofs.Apart.{one_plan}
 use Rattle.btr_run.proofs.Found.{found_line}
-use Rattle.btr_run.proofs.Carrying.{agreed_before, all_told, as_opened, few, limit_outcome, opening_line, opening_no_fault, opening_no_tree, steady_not_rose}
+use Rattle.btr_run.proofs.Carrying.{agreed_before, all_told, as_opened, few, limit_outcome, opening_line, opening_no_fault, opening_no_tree}
+use Rattle.btr_read.proofs.Compared.{steady_not_rose}
 use Rattle.btr_run.proofs.Carrying.{taken_outcome}
 
 -- the command of words that ask to write is a scrub that does
@@ -56,6 +58,7 @@ asks_scrub words plan sentence asks = writing plan.command (ap (λ (q : Plan). o
 
 -- words that are a sentence: their images
 module _ (words names : Words) (plan : Plan) (sentence : IsSentence plan words) (named : images_of plan words ≡ names) where
+  -- what the command comes to over the shelf is what the words come to
   outcome_is : (shelf : Shelf) (outcome : Outcome) → images_outcome plan.command words names shelf ≡ Some outcome → IsOutcome words shelf outcome
   outcome_is shelf outcome is = inr (inl (plan, sentence, ap (λ l. images_outcome plan.command words l shelf) named ∙ is))
 
@@ -74,6 +77,7 @@ module _ (words names : Words) (plan : Plan) (sentence : IsSentence plan words) 
   -- the images aren't open
   module _ (old new : Seen) (fault : OpeningFault) (many : HasTooMany names (Err fault))
       (cause : OpeningCause (opens_to_write plan.command) names old new (Err fault)) where
+    -- where no call failed, that answer is what the words come to over the shelf, or memory was wanted
     opening_comes : (shelf : Shelf) (x : Outside) → Steady old.account.faults new.account.faults
         → HasOneOutcome (MayWantBy words x.out_calls) (OrMemory (IsOutcome words shelf)) x x (opening_answer fault)
     opening_comes shelf x steady = comes_bare (MayWantBy words x.out_calls) (OrMemory (IsOutcome words shelf)) x (opening_answer fault) (of fault many cause)
@@ -87,6 +91,7 @@ module _ (words names : Words) (plan : Plan) (sentence : IsSentence plan words) 
         of (Failed slot) many cause = absurd (steady_not_rose old.account.faults new.account.faults steady cause.faults)
         of memory_fault many cause = inr refl
 
+    -- the same of a run's answer, where the shelf is told
     pub opening_effect : (shelf : Option Shelf) (x : Outside) (result : Answer) → result ≡ opening_answer fault
         → IfSome shelf (λ s. Steady old.account.faults new.account.faults
         → HasOneOutcome (MayWantBy words x.out_calls) (OrMemory (IsOutcome words s)) x x result)
@@ -94,12 +99,14 @@ module _ (words names : Words) (plan : Plan) (sentence : IsSentence plan words) 
         all_told shelf _ (λ s steady. subst (λ a. HasOneOutcome (MayWantBy words x.out_calls) (OrMemory (IsOutcome words s)) x x a) (sym is)
         (opening_comes s x steady))
 
+    -- whatever failed, that answer is a refusal before anything else
     pub opening_told : (x : Outside) (result : Answer) → result ≡ opening_answer fault → HasOneOutcome (MayWantBy words x.out_calls)
         (OrBare (MayFollow words)) x x result
     opening_told x result is =
         subst (λ a. HasOneOutcome (MayWantBy words x.out_calls) (OrBare (MayFollow words)) x x a) (sym is)
         (comes_bare (MayWantBy words x.out_calls) (OrBare (MayFollow words)) x (opening_answer fault) (inr (refl, opening_line fault)) (opening_no_fault fault))
 
+    -- a restore whose images aren't open did nothing of its journey, and was broken off
     pub opening_order : (shelf : Option Shelf) (before : Seen) (x : Outside) (result : Answer) → result ≡ opening_answer fault
         → IfSome shelf (λ s. FollowsOrder words s before new x x result)
     opening_order shelf before x result is =
@@ -118,6 +125,7 @@ module _ (words names : Words) (plan : Plan) (sentence : IsSentence plan words) 
         of p dest images start few (Failed slot) many is = bare p dest images start (inl (slot, is))
         of p dest images start few memory_fault many is = bare p dest images start (inr (inr (inr is)))
 
+    -- a command whose images aren't open answers as one of images that agree may
     pub opening_agreed : (shelf : Option Shelf) (x : Outside) (result : Answer) → result ≡ opening_answer fault
         → IfSome shelf (λ s. FollowsAgreed words s x x result)
     opening_agreed shelf x result is =
@@ -133,6 +141,7 @@ module _ (words names : Words) (plan : Plan) (sentence : IsSentence plan words) 
         of images few (Failed slot) many = inr (inl (slot, refl))
         of images few memory_fault many = inr (inr refl)
 
+    -- images that are opened only to be read are unchanged
     pub opening_unchanged : AreOpenedAs (opens_to_write plan.command) old.shelf new.slots new.held → (AsksToWrite words → ⊥)
         → AreUnchanged old.shelf new.slots new.held
     opening_unchanged opens never = of (opens_to_write plan.command) refl opens
@@ -141,6 +150,7 @@ module _ (words names : Words) (plan : Plan) (sentence : IsSentence plan words) 
         of true is opens = absurd (never (plan, sentence, is))
         of false is opens = opens
 
+    -- where no call failed and memory sufficed, the words ask for no scrub that writes: its images would be open
     pub opening_repaired : (result : Answer) → result ≡ opening_answer fault
         → IfSome old.shelf (λ shelf. Steady old.account.faults new.account.faults → result ≢ Memory → KeepsRepair words shelf new.held)
     opening_repaired result is =
@@ -154,20 +164,23 @@ module _ (words names : Words) (plan : Plan) (sentence : IsSentence plan words) 
         of few steady (Failed slot) many cause enough = steady_not_rose old.account.faults new.account.faults steady cause.faults
         of few steady memory_fault many cause enough = enough refl
 
+    -- that answer isn't the one of a scrub that was finished
     pub opening_unfinished : (result : Answer) → result ≡ opening_answer fault → (lost : ℕ) → result ≢ found lost
     opening_unfinished result is lost e = opening_line fault (ap error_line (sym is ∙ e) ∙ found_line lost)
 
-    pub opening_left : (calm : Type 0) (result : Answer) → result ≡ opening_answer fault → AreOpenedAs
-        (opens_to_write plan.command) old.shelf new.slots new.held → AsksToWrite words → AreLeft calm old.shelf new.slots new.held result
-    opening_left calm result is opens asks = (
+    -- images that were opened to be written stand as they were
+    pub opening_left : (unfailing : Type 0) (result : Answer) → result ≡ opening_answer fault → AreOpenedAs
+        (opens_to_write plan.command) old.shelf new.slots new.held → AsksToWrite words → AreLeft unfailing old.shelf new.slots new.held result
+    opening_left unfailing result is opens asks = (
       subst (λ b. All (λ (s : Slot). s.write ≡ b) new.slots) writes opens.0,
-      as_opened calm old.shelf new.held new.slots result
+      as_opened unfailing old.shelf new.held new.slots result
           (opening_unfinished result is) opens.1,
     )
       where
         writes : opens_to_write plan.command ≡ true
         writes = ap (λ (q : Plan). opens_to_write q.command) (one_plan words plan asks.0 sentence asks.1) ∙ asks.2
 
+    -- where the words alone decide, there are too many images, and so it is answered
     pub opening_decided : (result answer : Answer) → result ≡ opening_answer fault → IsDecided words answer → (most_images < length names) × (result ≡ answer)
     opening_decided result answer is decided = let all = too_many_decided answer decided in (all.0, is ∙ of fault many all.0 ∙ sym all.1)
       where
@@ -176,6 +189,7 @@ module _ (words names : Words) (plan : Plan) (sentence : IsSentence plan words) 
         of (Failed slot) few lt = absurd (omega (arith, few, lt))
         of memory_fault few lt = absurd (omega (arith, few, lt))
 
+    -- too many images are answered only where the words decide it, and a usage error isn't
     pub opening_stated : (result : Answer) → result ≡ opening_answer fault → FollowsWords words result
     opening_stated result is = subst (FollowsWords words) (sym is) (of fault many)
       where
@@ -188,13 +202,14 @@ module _ (words names : Words) (plan : Plan) (sentence : IsSentence plan words) 
         of (Failed slot) few = record { usage = λ at is. absurd (cc is); limit = λ n is. absurd (cc is) }
         of memory_fault few = record { usage = λ at is. absurd (cc is); limit = λ n is. absurd (cc is) }
 
+    -- that answer has its cause: the opening of an image failed, or no call did
     pub opening_cause : (result : Answer) → result ≡ opening_answer fault
         → ((slot : ℕ) → fault ≡ Failed slot → old.sure ≡ true → IsMissing names old.shelf slot) → IsBehindWords words old new result
     opening_cause result is sure = subst (IsBehindWords words old new) (sym is) (of fault cause sure)
       where
-        calm : (f : OpeningFault) → NoneFailed old.account new.account → ((slot : ℕ) → opening_answer f ≢ ImageFault slot)
+        unfailing : (f : OpeningFault) → NoneFailed old.account new.account → ((slot : ℕ) → opening_answer f ≢ ImageFault slot)
             → IsBehindWords words old new (opening_answer f)
-        calm f none other = record {
+        unfailing f none other = record {
           image = λ slot is. absurd (other slot is);
           shut = λ more. absurd (omega (arith, none.shut, more));
           hidden = inl none;
@@ -204,8 +219,8 @@ module _ (words names : Words) (plan : Plan) (sentence : IsSentence plan words) 
 
         of : (f : OpeningFault) → OpeningCause (opens_to_write plan.command) names old new (Err f)
             → ((slot : ℕ) → f ≡ Failed slot → old.sure ≡ true → IsMissing names old.shelf slot) → IsBehindWords words old new (opening_answer f)
-        of (TooMany count) cause sure = calm (TooMany count) cause (λ slot e. cc)
-        of memory_fault cause sure = calm memory_fault cause (λ slot e. cc)
+        of (TooMany count) cause sure = unfailing (TooMany count) cause (λ slot e. cc)
+        of memory_fault cause sure = unfailing memory_fault cause (λ slot e. cc)
         of (Failed slot) failed sure =
             let failed' = subst (λ l. OpeningFailed (opens_to_write plan.command) l new.slots old.account new.account slot) (sym named) failed in record {
               image = λ other is. record {
@@ -227,9 +242,11 @@ module _ (words names : Words) (plan : Plan) (sentence : IsSentence plan words) 
   -- the images are open, and the command was done, or not
   module _ (old mid new : Seen) (few : length names ≤ most_images) (opened : NoneFailed old.account mid.account) (answer : Answer)
       (behind : IsBehindCommand plan.command mid new answer) where
+    -- where the command may want memory, the words may
     may_want : (x : Outside) → MayWant plan.command words x.out_calls → MayWantBy words x.out_calls
     may_want x may = inr (plan, sentence, may)
 
+    -- where no call failed, what the command came to over the images is what the words come to over the shelf
     pub command_effect : (x y : Outside) → OpensAll names old.shelf mid.held (Ok tt)
         → IfSome mid.held (λ images. Steady mid.account.faults new.account.faults → HasOneOutcome (MayWant plan.command words x.out_calls)
         (OrMemory (λ outcome. command_outcome plan.command words images ≡ Some outcome)) x y answer)
@@ -252,6 +269,7 @@ module _ (words names : Words) (plan : Plan) (sentence : IsSentence plan words) 
             (λ want. inr want) one)
             (effect (subst (λ n. Steady n new.account.faults) (sym opened.faults) steady))
 
+    -- whatever failed, what the command may come to is what the words may come to
     pub command_told : (x y : Outside) → HasOneOutcome (MayWant plan.command words x.out_calls) (OrBare (MayCome plan.command words)) x y answer
         → HasOneOutcome (MayWantBy words x.out_calls) (OrBare (MayFollow words)) x y answer
     command_told x y comes =
@@ -259,9 +277,11 @@ module _ (words names : Words) (plan : Plan) (sentence : IsSentence plan words) 
         answer (may_want x)
         (λ outcome one. ⊎_elim (λ is. inl (plan, sentence, is)) (λ bare. inr bare) one) comes
 
+    -- images that are told in one place are the same
     the_images : (a b : Images) → ◌≡◌ {A = Option Images} (Some a) (Some b) → a ≡ b
     the_images a b e = cc e
 
+    -- a restore of the opened images follows its journey, and so one of those that the shelf has
     pub command_order : (x y : Outside) → OpensAll names old.shelf mid.held (Ok tt)
         → ((number : ℕ) (p : RestorePlan) → plan.command ≡ Ask (Restore number p) → IfSome mid.held
         (λ images. InOrder p (get_or words number []) images mid new x y answer))
@@ -284,12 +304,14 @@ module _ (words names : Words) (plan : Plan) (sentence : IsSentence plan words) 
             (subst (λ i. InOrder p (get_or words from.number []) i mid new x y answer) (the_images held images same)
             (order from.number p (sym (ap (λ (q : Plan). q.command) one)))))
 
+    -- what the command came to where the opened images agree it came to where those of the shelf do
     pub command_agreed : (x y : Outside) → OpensAll names old.shelf mid.held (Ok tt)
         → IfSome mid.held (λ images. AreAgreed images → HasOneOutcome (MayWant plan.command words x.out_calls)
         (ComesAgreed plan.command words images) x y answer)
         → IfSome old.shelf (λ shelf. FollowsAgreed words shelf x y answer)
     command_agreed x y = of old.shelf mid.held
       where
+        -- what a command came to, if these images agree
         ComesIfAgreed : Command → Images → Type 0
         ComesIfAgreed command images = AreAgreed images → HasOneOutcome (MayWant command words x.out_calls) (ComesAgreed command words images) x y answer
 
@@ -308,12 +330,15 @@ module _ (words names : Words) (plan : Plan) (sentence : IsSentence plan words) 
             (subst (λ c. MayWant c words x.out_calls → MayWantBy words x.out_calls) (sym (ap (λ (q : Plan). q.command) one)) (may_want x)) (λ outcome o. o)
             (by_command agreed)
 
+    -- the words alone decide nothing, as the images aren't too many
     pub none_decided : (other : Answer) → IsDecided words other → ⊥
     none_decided other decided = omega (arith, few, (too_many_decided other decided).0)
 
+    -- no answer of the command is one that the words alone decide
     pub command_stated : FollowsWords words answer
     command_stated = record { usage = λ at is. absurd (behind.no_usage at is); limit = λ n is. absurd (behind.no_limit n is) }
 
+    -- what lies behind the command's answer lies behind it since before the openings
     pub command_cause : IsOpened names old mid → IsBehindWords words old new answer
     command_cause opens = record {
       image = λ slot is. record {
@@ -334,9 +359,11 @@ module _ (words names : Words) (plan : Plan) (sentence : IsSentence plan words) 
       };
     }
 
+    -- the slots are those of the opened images
     same_slots : new.slots ≡ mid.slots
     same_slots = ap (λ (s : Seen). s.slots) behind.keeps.same
 
+    -- images that were opened only to be read are unchanged behind the command
     pub command_unchanged : AreOpenedAs (opens_to_write plan.command) old.shelf mid.slots mid.held → (AsksToWrite words → ⊥)
         → AreUnchanged old.shelf new.slots new.held
     command_unchanged opens never = of (opens_to_write plan.command) refl opens
@@ -346,9 +373,11 @@ module _ (words names : Words) (plan : Plan) (sentence : IsSentence plan words) 
         of false is opens = subst (λ slots. AreUnchanged old.shelf slots new.held) (sym same_slots)
             (subst (AreUnchanged old.shelf mid.slots) (sym (behind.held is)) opens)
 
+    -- where the words ask for a scrub that writes, that is the command
     the_scrub : (images : Images) (shelf : Shelf) → ScrubsFrom words shelf images → plan.command ≡ Scrub true
     the_scrub images shelf from = sym (ap (λ (q : Plan). q.command) (one_plan words _ plan from.sentence sentence))
 
+    -- where no call failed and memory sufficed, a scrub that writes leaves the shelf's images with what mends them
     pub command_repaired : OpensAll names old.shelf mid.held (Ok tt)
         → (plan.command ≡ Scrub true → IfSteady mid.held mid.account new.account (λ images. answer ≢ Memory → new.held ≡ Some (scrubbed_images images)))
         → IfSome old.shelf (λ shelf. Steady old.account.faults new.account.faults → answer ≢ Memory → KeepsRepair words shelf new.held)
@@ -366,6 +395,7 @@ module _ (words names : Words) (plan : Plan) (sentence : IsSentence plan words) 
             subst (λ i. new.held ≡ Some (scrubbed_images i)) (the_images held images same)
             (repaired (the_scrub images at from) (subst (λ n. Steady n new.account.faults) (sym opened.faults) steady) enough)
 
+    -- what a scrub that writes leaves of the opened images it leaves of those that the shelf has
     pub command_left : OpensAll names old.shelf mid.held (Ok tt) → AreOpenedAs (opens_to_write plan.command) old.shelf mid.slots mid.held
         → (plan.command ≡ Scrub true → IfSome mid.held
         (λ images. IfSome new.held (λ left. LeavesImages (Steady mid.account.faults new.account.faults) images left answer)))

@@ -13,6 +13,7 @@ use Rattle.btr_run.specs.Words.{Words}
 use Rattle.btr_rack.specs.declared.error.RackError.{RackError}
 use Rattle.btr_run.specs.Images.{without, taken, AreOpenedAs}
 
+-- the bytes of some images
 abbrev pub Images : Type 0
 Images = List (List ℕ)
 
@@ -37,6 +38,7 @@ record Told (name : List ℕ) (at : Shelf) (shelf' : Option Shelf) (held held' :
   held_is : held' ≡ Some images'
   takes : TakesImage name at now images images'
 
+-- an opening that gave a slot was over a shelf that is told, and took its image from it
 told : (name : List ℕ) (at : Shelf) (shelf shelf' : Option Shelf) (held held' : Option Images) (slot : ℕ) → ShelfTakes name shelf shelf' held held' (Ok slot)
     → shelf ≡ Some at → Told name at shelf' held held'
 told name at None shelf' held held' slot takes e = absurd (cc)
@@ -61,12 +63,14 @@ shelf_without name at now gone others = λ i other. each other i
     each : (other : List ℕ) → now other ≡ cond (bytes_eq other name) None (at other)
     each other = of other (bytes_eq other name) (bytes_eq-Decides other name)
 
+-- what is taken for a name and more is its image, and what is taken for more from what is left
 taken_more : (name : List ℕ) (rest : Words) (at now : Shelf) (images images' : Images) (takes : TakesImage name at now images images')
     → taken (name ∷ rest) at ≡ option_map (λ more. takes.bytes ∷ more) (taken rest now)
 taken_more name rest at now images images' takes =
     ap (option_and_then (λ bytes. option_map (λ more. bytes ∷ more) (taken rest (without name at)))) takes.stood
     ∙ ap (λ s. option_map (λ more. takes.bytes ∷ more) (taken rest s)) (sym (shelf_without name at now takes.gone takes.others))
 
+-- an image before more, behind others, is the last of these
 map_twice : (images : Images) (bytes : List ℕ) (o : Option Images) → option_map (λ more. images ++ more) (option_map (λ more. bytes ∷ more) o) ≡ option_map
     (λ more. (images ++ bytes ∷ []) ++ more) o
 map_twice images bytes None = refl
@@ -76,6 +80,7 @@ map_twice images bytes (Some more) = ap (λ l. Some l) (sym (append_assoc images
 abbrev pub Sized : Option Images → List Slot → Type 0
 Sized held slots = IfSome held (λ images. map length images ≡ map (λ s. s.len) slots)
 
+-- without a slot no image is open
 none_open : (held : Option Images) (images : Images) (slots : List Slot) → Sized held slots → held ≡ Some images → length slots ≡ 0 → images ≡ []
 none_open None images slots sized e none = absurd (cc)
 none_open (Some all) images slots sized e none =
@@ -96,6 +101,7 @@ open_more (Some at) before after name shelf shelf' held held' slots slot more so
     (⊎_elim (λ first. inr (begun first.0 (told name at shelf shelf' held held' slot takes first.1)))
     (λ later. inr (further later (told name later.0 shelf shelf' held held' slot takes later.2))) so)
   where
+    -- the first name's image is open
     begun : before ≡ [] → Told name at shelf' held held' → Holds (before ++ name ∷ []) at shelf' held'
     begun first t =
         let empty = none_open held t.images slots sized t.held_was (many ∙ ap length first) in
@@ -108,6 +114,7 @@ open_more (Some at) before after name shelf shelf' held held' slots slot more so
               ∙ ap (λ l. option_map (λ more. l ++ more) (taken rest t.now)) (sym opened),
         )
 
+    -- a further name's image is open behind those before
     further : (later : Holds before at shelf held) → Told name later.0 shelf' held held' → Holds (before ++ name ∷ []) at shelf' held'
     further later t =
         let same : t.images ≡ later.1 = same_some held t.images later.1 t.held_was later.3 in
@@ -125,6 +132,7 @@ open_more (Some at) before after name shelf shelf' held held' slots slot more so
 held_are : (before : Words) (at : Shelf) (shelf : Option Shelf) (held : Option Images) → (later : Holds before at shelf held) → taken before at ≡ Some later.1
 held_are before at shelf held later = ap (λ l. taken l at) (sym (append-nil before)) ∙ later.4 [] ∙ ap (λ l. Some l) (append-nil later.1)
 
+-- once all names were opened, the open images are those that are taken for them from the shelf
 pub all_open : (names before : Words) (i : ℕ) (at : Option Shelf) (shelf : Option Shelf) (held : Option Images) → 0 < length names → before ≡ take i names
     → length names ≤ i → OpenSoFar before at shelf held
     → IfSome at (λ s. IsSomeAnd held (λ images. taken names s ≡ Some images))
@@ -162,6 +170,7 @@ takes_none name (Some x) (Some y) None held' e takes = takes.1
 takes_none name (Some x) (Some y) (Some z) None e takes = takes.1
 takes_none name (Some x) (Some y) (Some z) (Some w) e takes = takes.1
 
+-- the opened images are those of the shelf behind an opening that was refused, too
 pub refused_opened : (write : Bool) (name : List ℕ) (at shelf shelf' : Option Shelf) (held held' : Option Images) (slots slots' : List Slot) (e : RackError)
     → All (λ (s : Slot). s.write ≡ write) slots → Sized held slots
     → OpenSoFar (map (λ s. s.name) slots) at shelf held → ShelfTakes name shelf shelf' held held' (Err e) → slots' ≡ slots → AreOpenedAs write at slots' held'
@@ -202,6 +211,7 @@ names_before names old new s i is lt name before =
 none_left : (name : List ℕ) (at : Shelf) → at name ≡ None → taken (name ∷ []) at ≡ None
 none_left name at gone = ap (option_and_then (λ bytes. option_map (λ more. bytes ∷ more) (taken [] (without name at)))) gone
 
+-- a name that isn't on a shelf that is told isn't on it as it is told
 left_alone : (name : List ℕ) (shelf : Option Shelf) (at : Shelf) → shelf ≡ Some at → IfSome shelf (λ s. s name ≡ None) → at name ≡ None
 left_alone name shelf at is gone = subst (λ o. IfSome o (λ s. s name ≡ None)) is gone
 

@@ -50,7 +50,7 @@ use Rattle.btr_run.specs.Faults.{open_answer, tree_answer}
 use Rattle.btr_run.specs.Filesystem.{OpensAs, answer_as}
 use Rattle.btr_restore.proofs.Agreeing.{array_agreed}
 use Rattle.btr_run.specs.Order.{AnswersAs, FollowsOrder, InOrder, IsAgreed, KeepsCommittedOrder, KeepsLine, KeepsOrder, KeepsTo}
-use Rattle.btr_run.specs.Outcomes.{IsPut, Stands, due_after}
+use Rattle.btr_run.specs.Outcomes.{IsPut, DidAndTold, due_after}
 use Rattle.btr_run.specs.Words.{Words}
 use Rattle.btr_run.specs.Listed.{stopped_answer}
 use Rattle.btr_run.specs.Queries.Restored.{skipped_in}
@@ -63,7 +63,7 @@ no_steps [] = refl
 no_steps (step ∷ steps) = absurd step
 
 -- where nothing was done
-pub nothing_stands : (x : Outside) → Stands x x [] []
+pub nothing_stands : (x : Outside) → DidAndTold x x [] []
 nothing_stands x = record { sink = refl; text = adds_nothing x.text }
 
 -- where some steps were put
@@ -74,7 +74,7 @@ adds_after (Some text) new steps is = is ∙ ap (λ l. Some (text ++ l)) (sym (a
 -- what a call did stands
 pub did_stand : {Says : (UnreadBlock → Want → Type 0) → (ℕ → Map) → List Step → Type 0} (layout : Layout) (mid new : Seen) (volume after : Volume)
     (x y : Outside)
-    (did : Did layout (scene_of (world mid volume x)) (scene_of (world new after y)) Says) → Stands x y did.done []
+    (did : Did layout (scene_of (world mid volume x)) (scene_of (world new after y)) Says) → DidAndTold x y did.done []
 did_stand layout mid new volume after x y did = record { sink = did.sink; text = adds_after x.text y.text did.done did.text }
 
 -- nothing may be done of a journey
@@ -102,6 +102,7 @@ scan_follows images start old new answer told agreed scans =
     (exec (fate i (array_layout start)) (table_scan start)) [] answer)) told
     (scans.calls.content Any (subst (λ (o : Option Images). IfSome o (λ i. Agreed i (array_layout start))) (sym told) agreed))
 
+-- a scan of the chunk tree by the first candidates is one by some candidates
 scan_goes : (images : Images) (start : Start) (old new : Seen) (answer : Result TableResult (Halt Fault UnreadBlock))
     → Follows {S = ⊥} (unread_by (array_layout start) old new) no_part [] (exec (fate images (array_layout start)) (table_scan start)) [] answer
     → Goes {S = ⊥} (unread_by (array_layout start) old new) no_part [] (λ n. choices images n (array_layout start)) (table_scan start) [] answer
@@ -119,6 +120,7 @@ names_since layout old mid new first u [] names = names
 names_since layout old mid new first u (w ∷ ws) names = ⊎_elim (λ is. inl (unread_since layout u w first is))
     (λ rest. inr (names_since layout old mid new first u ws rest)) names
 
+-- what follows a run in some calls follows it in calls that began earlier
 goes_since : {A : Type 0} (layout : Layout) (old mid new : Seen) → OnlyReads old mid → (r : Run Want Fault Step A) (done : List Step)
     (answer : Result A (Halt Fault UnreadBlock)) → Follows (unread_by layout mid new) part [] r done answer
     → Follows (unread_by layout old new) part [] r done answer
@@ -150,6 +152,7 @@ listed_as layout old new (Err (stop.Missing id)) cause = absurd cause
 listed_as layout old new (Err (stop.Image slot)) cause = absurd cause
 listed_as layout old new result cause = refl
 
+-- a fault of a tree is answered as the journey ends by it
 tree_as : (f : TreeFault) → AnswersAs (Err (halt_of f)) (tree_answer f)
 tree_as (tree.Lost a) = refl
 tree_as f = refl
@@ -157,9 +160,11 @@ tree_as f = refl
 module _ (plan : RestorePlan) (dest : List ℕ) (images : Images) (start : Start) (begun : start_of images ≡ Ok start) (agreed : IsAgreed images start)
     (old new : Seen) (then : journey.OpenedThen plan dest start old new) (refused : journey.OpenRefused plan dest start old new)
     (halted : journey.OpenHalted plan dest start old new) (told : old.held ≡ Some images) where
+  -- steps and an answer of the journey, where a want may come to any of its candidates
   abbrev Journeys : List Step → journey.Answer → Type 0
   Journeys = journey.Follows plan dest start old new (choices images)
 
+  -- the images have one start
   same_start : (other : Start) → start_of images ≡ Ok other → other ≡ start
   same_start other is = cc (sym is ∙ begun)
 
@@ -177,10 +182,12 @@ module _ (plan : RestorePlan) (dest : List ℕ) (images : Images) (start : Start
       cc
 
   -- where the filesystem isn't opened nothing was done
-  module _ (x : Outside) (stands : Stands x x [] []) where
+  module _ (x : Outside) (stands : DidAndTold x x [] []) where
+    -- an answer that the journey may have before its first step
     bare : (answer : journey.Answer) (result : Answer) → Journeys [] answer → AnswersAs answer result → KeepsTo Journeys x x [] result
     bare answer result allowed answered = record { done = []; answer = answer; allowed = allowed; stands = stands; answered = answered }
 
+    -- a refusal by a chunk of the chunk tree is one of the journey; by the superblocks there is none
     by_start : (refusal : OpenFault) → (start_of images ≡ Err refusal) ⊎ ((f : TableFault) × (refusal_of f ≡ refusal) × Starts images old new (Ok (Err f)))
         → KeepsTo Journeys x x [] (open_answer refusal)
     by_start refusal why =
@@ -192,6 +199,7 @@ module _ (plan : RestorePlan) (dest : List ℕ) (images : Images) (start : Start
         (subst (λ s. Scans s old new (Ok (Err table.0))) (same_start table.2.start table.2.is) table.2.scans))))
         (ap open_answer (sym table.1))) why
 
+    -- a restore whose filesystem isn't opened follows its journey, and did nothing of it
     pub unopened_order : (refusal : OpenFault) → Opens images old new (Err refusal) → KeepsTo Journeys x x [] (open_answer refusal)
     unopened_order (opening.ImageFault slot) opens = bare (Err Broke) (open_answer (opening.ImageFault slot)) (nothing_done plan dest images start old new)
         (inl (slot, refl))
@@ -216,7 +224,7 @@ module _ (plan : RestorePlan) (dest : List ℕ) (images : Images) (start : Start
 
   -- The filesystem was opened, and it was restored from.
   pub opened_order : (mid : Seen) (volume after : Volume) (x y : Outside) (result : Result Counts Stop) → OnlyReads old mid → Opens images old mid (Ok volume)
-      → (ran : Ran (listing plan dest volume.sup) (world mid volume x) (world new after y) result) → Stands x y ran.did.done []
+      → (ran : Ran (listing plan dest volume.sup) (world mid volume x) (world new after y) result) → DidAndTold x y ran.did.done []
       → KeepsTo Journeys x y [] (stopped_answer skipped_in result)
   opened_order mid volume after x y result first opens ran stands = record {
     done = ran.did.done;
@@ -321,12 +329,14 @@ module _ (plan : RestorePlan) (dest : List ℕ) (old new : Seen) (then : (start 
 -- A line was put behind what was done, or a first part of it.
 module _ (x y : Outside) (new : Option (List ℕ)) (after : CallAccount) (answer result : Answer)
     (line : IsPut y.text new y.out_calls after (error_line answer) answer result) where
-  stands_then : (done : List Step) (more : List ℕ) → Stands x y done [] → Adds y.text new more → Stands x (with_line y new after) done more
+  -- a text behind the steps that stand
+  stands_then : (done : List Step) (more : List ℕ) → DidAndTold x y done [] → Adds y.text new more → DidAndTold x (with_line y new after) done more
   stands_then done more stands adds = record {
     sink = stands.sink;
     text = subst (Adds x.text new) (ap (λ l. l ++ more) (append-nil (text_of done))) (adds_twice x.text y.text new (text_of done ++ []) more stands.text adds);
   }
 
+  -- what was kept to before the line of the answer is kept to behind it, or behind a first part of it
   with_the_line : (P : List Step → journey.Answer → Type 0) → KeepsTo P x y [] answer → KeepsLine P x (with_line y new after) result
   with_the_line P keeps = of line.put line.puts line.due
     where
@@ -350,6 +360,7 @@ module _ (x y : Outside) (new : Option (List ℕ)) (after : CallAccount) (answer
       of (Err Failed) puts due = record { due = answer; some = puts.0; keeps = behind puts.0 puts.1; ends = inr (inl due) }
       of (Err memory_fault) puts due = record { due = answer; some = puts.0; keeps = behind puts.0 puts.1; ends = inr (inr due) }
 
+  -- a restore that follows its journey keeps to it with the line of its answer
   pub keeps_order : (words : Words) (shelf : Shelf) (old now : Seen) → FollowsOrder words shelf old now x y answer
       → KeepsOrder words shelf old now x (with_line y new after) result
   keeps_order words shelf old now follows plan dest images start from begun agreed =

@@ -8,7 +8,7 @@ use Rattle.btr_run.specs.Agreeing.{ComesAgreed}
 use Rattle.btr_run.specs.Behind.{IfSteady, IsBehind}
 use Rattle.btr_run.specs.Commands.{IsBehindCommand, KeepsRack, MayCome, MayFail, MayWant, TellsCause, command_outcome}
 use Rattle.btr_run.specs.Order.{InOrder}
-use Rattle.btr_run.specs.Outcomes.{Outcome, HasOneOutcome, OrBare, OrMemory, Shows}
+use Rattle.btr_run.specs.Outcomes.{Outcome, HasOneOutcome, OrBare, OrMemory, ShowsOutcome}
 use Rattle.btr_run.specs.Queries.{query_row}
 use Rattle.btr_run.specs.Repaired.{LeavesScrubbed}
 use Rattle.btr_run.specs.Queries.Restored.{restore_row}
@@ -22,30 +22,33 @@ use Rattle.btr_run.specs.declared.plan.Command.{Command}
 use Rattle.btr_run.specs.declared.plan.Command.TheVariants.{Ask, Scrub}
 use Rattle.btr_run.specs.declared.query.Query.{Query}
 use Rattle.btr_run.specs.declared.query.Query.TheVariants.{Restore}
-use Rattle.btr_run.proofs.Coming.{comes_also, comes_shown, when_told}
+use Rattle.btr_run.proofs.Coming.{comes_also, comes_shown}
+use Rattle.btr_read.proofs.Fetched.{map_some}
 use Rattle.btr_run.proofs.Openings.{Images}
 
 module _ (May : Type 0) (x y : Outside) (scarce : x.out_calls.ample ≡ false → May) (same : y.sink ≡ x.sink) (same_calls : y.sink_calls ≡ x.sink_calls)
     (answer : Answer) where
+  -- where no call failed, what the command showed is what it comes to
   pub shown_effect : (IsOne : Images → Outcome → Type 0) (held : Option Images) (old new : Account)
-      → IfSteady held old new (λ images. Shows (OrMemory (IsOne images)) x.text y.text x.out_calls y.out_calls answer)
+      → IfSteady held old new (λ images. ShowsOutcome (OrMemory (IsOne images)) x.text y.text x.out_calls y.out_calls answer)
       → IfSteady held old new (λ images. HasOneOutcome May (OrMemory (IsOne images)) x y answer)
   shown_effect IsOne held old new =
-      when_told held (λ images. Steady old.faults new.faults → Shows (OrMemory (IsOne images)) x.text y.text x.out_calls y.out_calls answer)
+      map_some held (λ images. Steady old.faults new.faults → ShowsOutcome (OrMemory (IsOne images)) x.text y.text x.out_calls y.out_calls answer)
       (λ images. Steady old.faults new.faults → HasOneOutcome May (OrMemory (IsOne images)) x y answer)
       (λ images shows steady. comes_shown May (OrMemory (IsOne images)) x y answer same same_calls scarce
       (shows steady))
 
-  pub shown_told : (IsOne : Outcome → Type 0) → Shows (OrBare IsOne) x.text y.text x.out_calls y.out_calls answer
+  -- whatever failed, what the command showed is what it may come to
+  pub shown_told : (IsOne : Outcome → Type 0) → ShowsOutcome (OrBare IsOne) x.text y.text x.out_calls y.out_calls answer
       → HasOneOutcome May (OrBare IsOne) x y answer
   shown_told IsOne shows = comes_shown May (OrBare IsOne) x y answer same same_calls scarce shows
 
   -- what it comes to where the images agree
   pub shown_so : (IsOne : Images → Outcome → Type 0) (held : Option Images)
-      → IfSome held (λ images. AreAgreed images → Shows (IsOne images) x.text y.text x.out_calls y.out_calls answer)
+      → IfSome held (λ images. AreAgreed images → ShowsOutcome (IsOne images) x.text y.text x.out_calls y.out_calls answer)
       → IfSome held (λ images. AreAgreed images → HasOneOutcome May (IsOne images) x y answer)
   shown_so IsOne held =
-      when_told held (λ images. AreAgreed images → Shows (IsOne images) x.text y.text x.out_calls y.out_calls answer)
+      map_some held (λ images. AreAgreed images → ShowsOutcome (IsOne images) x.text y.text x.out_calls y.out_calls answer)
       (λ images. AreAgreed images → HasOneOutcome May (IsOne images) x y answer)
       (λ images shows agreed. comes_shown May (IsOne images) x y answer same same_calls scarce (shows agreed))
 
@@ -76,6 +79,7 @@ only_reads command old new answer behind = record {
   no_limit = behind.no_limit;
 }
 
+-- a scrub that is the one that writes does so
 pub scrub_writes : (write : Bool) → Scrub write ≡ Scrub true → write ≡ true
 scrub_writes write is = cc is
 
@@ -86,22 +90,25 @@ module _ {R T O : Type 0} (eyes : Eyes R T O) (words : Words) (old : Given R T O
   abbrev beside : Run R T O
   beside = record { eyes = eyes; words = words; old = old; new = record old { rack = rack; out = out }; answer = answer }
 
+  -- the sink and the output before the command
   abbrev x : Outside
   x = outside_before beside
 
+  -- the sink and the output behind the command
   abbrev y : Outside
   y = outside_behind beside
 
   module _ (command : Command) (stored : eyes.waits old.tree ≡ false) (scarce : x.out_calls.ample ≡ false → MayWant command words x.out_calls)
       (other : (query : Query) → command ≡ Ask query → ⊥) where
+    -- the command may want memory
     abbrev May : Type 0
     May = MayWant command words x.out_calls
 
     -- what a command promises that puts one text
     pub shown : IfSteady (before beside).held (before beside).account (behind beside).account (λ images.
-        Shows (OrMemory (λ outcome. command_outcome command words images ≡ Some outcome)) x.text y.text x.out_calls y.out_calls answer)
-        → Shows (OrBare (MayCome command words)) x.text y.text x.out_calls y.out_calls answer
-        → IfSome (before beside).held (λ images. AreAgreed images → Shows
+        ShowsOutcome (OrMemory (λ outcome. command_outcome command words images ≡ Some outcome)) x.text y.text x.out_calls y.out_calls answer)
+        → ShowsOutcome (OrBare (MayCome command words)) x.text y.text x.out_calls y.out_calls answer
+        → IfSome (before beside).held (λ images. AreAgreed images → ShowsOutcome
         (ComesAgreed command words images) x.text y.text x.out_calls y.out_calls answer)
         → IsBehindCommand command (before beside) (behind beside) answer
         → (command ≡ Scrub true → LeavesScrubbed (before beside) (behind beside) answer)
@@ -135,13 +142,14 @@ asked run query done order stored alone = record { done = done; order = order; s
 -- what a row comes to, as what a command comes to
 module _ {R T O : Type 0} (run : Run R T O) (command : Command) (row : Row)
     (comes_to : (images : Images) → command_outcome command run.words images ≡ Some (row_outcome row images)) where
+  -- where no call failed, what the row comes to is what the command comes to
   row_effect : IfSteady (before run).held (before run).account (behind run).account (λ images.
       HasOneOutcome (row.MayWant (outside_before run).out_calls) (OrMemory (λ outcome. row_outcome row images ≡ outcome))
       (outside_before run) (outside_behind run) run.answer)
       → IfSteady (before run).held (before run).account (behind run).account (λ images.
       HasOneOutcome (row.MayWant (outside_before run).out_calls) (OrMemory (λ outcome. command_outcome command run.words images ≡ Some outcome))
       (outside_before run) (outside_behind run) run.answer)
-  row_effect = when_told (before run).held _ _ (λ images comes steady.
+  row_effect = map_some (before run).held _ _ (λ images comes steady.
       comes_also (row.MayWant (outside_before run).out_calls) (row.MayWant (outside_before run).out_calls)
       (OrMemory (λ outcome. row_outcome row images ≡ outcome)) (OrMemory (λ outcome. command_outcome command run.words images ≡ Some outcome))
       (outside_before run) (outside_behind run) run.answer (λ may. may)
@@ -168,6 +176,7 @@ by_word row old new x y answer word dest same done = subst (λ d. IsRowDone (row
 
 -- a restore: the order of its steps is told beside, and a dry one makes no call of the sink
 module _ {R T O : Type 0} (run : Run R T O) (number : ℕ) (plan : RestorePlan) where
+  -- a restore that can only be dry leaves the sink
   keeps_alone : (plan.dry ≡ true → run.new.tree ≡ run.old.tree) → (plan.dry ≡ false → ⊥) → run.new.tree ≡ run.old.tree
   keeps_alone dry never = dry (is_true plan.dry never)
     where
@@ -175,12 +184,13 @@ module _ {R T O : Type 0} (run : Run R T O) (number : ℕ) (plan : RestorePlan) 
       is_true true never = refl
       is_true false never = absurd (never refl)
 
+  -- the restore that the query asks for follows its journey, by the word that it cites
   its_order : (dest : List ℕ) → get_or run.words number [] ≡ dest
       → IfSome (before run).held (λ images. InOrder plan dest images (before run) (behind run) (outside_before run) (outside_behind run) run.answer)
       → (other : ℕ) (given : RestorePlan) → Restore number plan ≡ Restore other given
       → IfSome (before run).held (λ images. InOrder given (get_or run.words other []) images (before run) (behind run) (outside_before run) (outside_behind run)
       run.answer)
-  its_order dest named order other given is = when_told (before run).held _ _ (λ images follows.
+  its_order dest named order other given is = map_some (before run).held _ _ (λ images follows.
       subst (λ p. InOrder p (get_or run.words other []) images (before run) (behind run) (outside_before run) (outside_behind run) run.answer)
       (same_plan is)
       (subst (λ d. InOrder plan d images (before run) (behind run) (outside_before run) (outside_behind run) run.answer)
@@ -192,6 +202,7 @@ module _ {R T O : Type 0} (run : Run R T O) (number : ℕ) (plan : RestorePlan) 
       same_number : Restore number plan ≡ Restore other given → number ≡ other
       same_number e = cc e
 
+  -- a restore that was done is a query that was done
   pub restore_asked : (dest : List ℕ) → get_or run.words number [] ≡ dest
       → IsRowDone (restore_row plan dest) (before run) (behind run) (outside_before run) (outside_behind run) run.answer
       → IfSome (before run).held (λ images. InOrder plan dest images (before run) (behind run) (outside_before run) (outside_behind run) run.answer)

@@ -10,7 +10,7 @@ use Rattle.btr_prog.specs.Answers.{Fault as halt_fault}
 use Rattle.btr_prog.proofs.Choices.{goes_map}
 use Rattle.btr_rack.specs.Rack.{Seen, Shelf}
 use Rattle.btr_rack.specs.Out.{Adds}
-use Rattle.btr_rack.specs.Sink.{Sink, Tree, IsSound, NotStarted, is_in_file}
+use Rattle.btr_rack.specs.Sink.{Sink, Tree, IsSoundSink, NotStarted, is_in_file}
 use Rattle.btr_rack.specs.declared.part.Part.{Part}
 use Rattle.btr_read.specs.Fate.{Fault, fate}
 use Rattle.btr_read.specs.declared.want.Want.{Want}
@@ -56,6 +56,7 @@ module _ (seen : Seen) (settles : SettledLaw) (then : (plan : RestorePlan) (dest
     (refused : (plan : RestorePlan) (dest : List ℕ) (start : Start) → OpenRefused plan dest start seen seen)
     (halted : (plan : RestorePlan) (dest : List ℕ) (start : Start) → OpenHalted plan dest start seen seen) where
   module _ (plan : RestorePlan) (dest : List ℕ) (images : Images) (start : Start) (begun : start_of images ≡ Ok start) where
+    -- the scan of the chunk tree over the images
     abbrev scan : Run Want Fault ⊥ TableResult
     scan = exec (fate images (array_layout start)) (table_scan start)
 
@@ -88,6 +89,7 @@ module _ (seen : Seen) (settles : SettledLaw) (then : (plan : RestorePlan) (dest
             (r, goes_map (λ (n : ℕ). fate images (layout_by start table)) 0 (listing plan dest start.sup), (refl, ended))))
             (ap (listed_answer skipped_in) ended)
 
+    -- the table of chunks was scanned, and the candidates of the root tree's root block agree by it, or not
     with_chunks : (table : List Chunk) → scan.ending ≡ Ok (Ok table) → (d : Option ℕ) → roots_differ images start (Ok (Ok table)) ≡ d
         → IsOutcomeOf (row_in (restore_row plan dest) images (with_roots start table d)) (restore_outcome plan dest images)
     with_chunks table scanned None is = with_listing table scanned (by_roots (Ok (Ok table)) scanned ∙ is)
@@ -96,6 +98,7 @@ module _ (seen : Seen) (settles : SettledLaw) (then : (plan : RestorePlan) (dest
         by_steps [] (Ok (Err (opening.Diverged slot))) _ (restore_outcome plan dest images)
         (sym (ap (from_start plan dest images) begun ∙ ap (λ d. unless_diverged d here) (by_roots (Ok (Ok table)) scanned ∙ is))) refl
 
+    -- whatever the scan of the chunk tree came to, what the program comes to is the outcome of restore
     by_scan : (s : Result TableResult Fault) → scan.ending ≡ s
         → IsOutcomeOf (row_in (restore_row plan dest) images (with_table images start s)) (restore_outcome plan dest images)
     by_scan (Ok (Ok table)) scanned = with_chunks table scanned (roots_differ images start (Ok (Ok table))) refl
@@ -110,6 +113,7 @@ module _ (seen : Seen) (settles : SettledLaw) (then : (plan : RestorePlan) (dest
         (halted plan dest start (λ n. fate images) (halt_fault f)
         (scan, goes_map (λ (n : ℕ). fate images (array_layout start)) 0 (table_scan start), (no_steps (steps_of scan.marks), scanned)))) refl
 
+  -- what the program's restore comes to over any images is the outcome of restore
   is_outcome : (plan : RestorePlan) (dest : List ℕ) (images : Images)
       → IsOutcomeOf (row_outcome (restore_row plan dest) images) (restore_outcome plan dest images)
   unfolding row_outcome
@@ -133,6 +137,7 @@ module _ (seen : Seen) (settles : SettledLaw) (then : (plan : RestorePlan) (dest
       of (Some t) = refl
   tree_step s step = refl
 
+  -- some steps in a sink, and in what it tells
   told_steps : (steps : List Step) (s : Sink) (t : Tree) → IfSome s.tree (λ u. u ≡ t) → IfSome (fold sink_after s steps).tree (λ u. u ≡ fold after_step t steps)
   told_steps [] s t h = h
   told_steps (step ∷ steps) s t h = told_steps steps (sink_after s step) (after_step t step) (of s.tree h (tree_step s step))
@@ -143,7 +148,7 @@ module _ (seen : Seen) (settles : SettledLaw) (then : (plan : RestorePlan) (dest
       of (Some u) h e = subst (λ o. IfSome o (λ v. v ≡ after_step t step)) (sym e) (ap (λ v. after_step v step) h)
 
   -- a sink that isn't started tells that nothing was written
-  empty_at_first : (s : Sink) → IsSound s → s.stage ≡ NotStarted → IfSome s.tree (λ t. t ≡ nothing)
+  empty_at_first : (s : Sink) → IsSoundSink s → s.stage ≡ NotStarted → IfSome s.tree (λ t. t ≡ nothing)
   empty_at_first s sound fresh = of s.tree sound.part (sound.rows fresh)
     where
       of : (o : Option Tree) → IfSome o (λ t. is_some t.part ≡ is_in_file s.stage) → IfSome o (λ t. t.rows ≡ []) → IfSome o (λ t. t ≡ nothing)
@@ -154,8 +159,9 @@ module _ (seen : Seen) (settles : SettledLaw) (then : (plan : RestorePlan) (dest
           no_part_in None e rows = ap (λ l. record nothing { rows = l }) rows
           no_part_in (Some p) e rows = absurd (cc e)
 
-  module _ (words : Words) (shelf : Shelf) (x y : Outside) (result : Answer) (sound : IsSound x.sink) (fresh : x.sink.stage ≡ NotStarted) where
-    stands_as : (outcome : tool.Outcome) (found : RestoreOutcome) → tool.Stands x y outcome.steps (error_line outcome.answer) → result ≡ outcome.answer
+  module _ (words : Words) (shelf : Shelf) (x y : Outside) (result : Answer) (sound : IsSoundSink x.sink) (fresh : x.sink.stage ≡ NotStarted) where
+    -- where an outcome of the program stands that is one of restore, that of restore stands
+    stands_as : (outcome : tool.Outcome) (found : RestoreOutcome) → tool.DidAndTold x y outcome.steps (error_line outcome.answer) → result ≡ outcome.answer
         → IsOutcomeOf outcome found → StandsAs x y result found
     stands_as outcome found stands answered is = record {
       rows = told (λ t. t.rows ≡ found.rows) (λ t e. ap (λ (u : Tree). u.rows) e ∙ is.rows);
@@ -173,6 +179,7 @@ module _ (seen : Seen) (settles : SettledLaw) (then : (plan : RestorePlan) (dest
             of None h = tt
             of (Some t) h = all t h
 
+    -- a restore that has the effect of its words is the outcome of restore over the bytes of its images
     pub keeps_outcome : HasEffect words shelf x y result → KeepsOutcome words shelf x y result
     keeps_outcome effect plan dest images from =
         stands_as effect.outcome (restore_outcome plan dest images) effect.stands effect.answered
@@ -188,6 +195,7 @@ module _ (seen : Seen) (settles : SettledLaw) (then : (plan : RestorePlan) (dest
             (λ (trial : (n : ℕ) × AsksToTry words n × IsTrialOutcome n effect.outcome).
             absurd (no_trial words _ trial.0 from.sentence trial.1 (λ n e. cc e))) rest) effect.is)
 
+    -- over honest images that is what was committed, whole or up to the first need without a candidate
     pub keeps_headline : Headline → HasEffect words shelf x y result → KeepsHeadline words shelf x y result
     keeps_headline law effect plan dest images start C table from begun honest closed = (
       restore_outcome plan dest images,

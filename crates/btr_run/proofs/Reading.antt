@@ -78,6 +78,7 @@ neither false b e = (refl, e)
 both_false : (a b : Bool) → (a ≡ false) × (b ≡ false) → (a || b) ≡ false
 both_false a b e = ap (λ x. x || b) e.0 ∙ e.1
 
+-- an option that may stand beside neither of two
 excluded : (a b : Bool) (place : Options → Stage) (after : Options) (t : Stage) → option_map place (cond (a || b) None (Some after)) ≡ Some t
     → ((a ≡ false) × (b ≡ false)) × (place after ≡ t)
 excluded a b place after t e = let one = flagged (a || b) place after t e in (neither a b one.0, one.1)
@@ -141,6 +142,7 @@ option_led left old at word words new t e rest =
     at_stage : (s : Stage) → s ≡ t → Rest s.next s.left s.read (at + 1) words new
     at_stage s is = subst (λ (s : Stage). Rest s.next s.left s.read (at + 1) words new) (sym is) rest
 
+    -- behind `-r`, which an id follows
     by_root : word ≡ codes "-r" → (old.options.root ≡ None) × (stage (Destination ∷ left) next.Id old ≡ t)
         → ReadsParts (Destination ∷ left) at (word ∷ words) old new
     by_root is one = of (at_stage (stage (Destination ∷ left) next.Id old) one.1)
@@ -150,6 +152,7 @@ option_led left old at word words new t e rest =
             one_option (Root r.0) left old new (one.0, r.4) (word ∷ words) r.2 at (at + 1 + 1)
             (ap (λ w. w ∷ words) is ∙ ap (λ l. codes "-r" ∷ l) r.5 ∙ ap (λ w. codes "-r" ∷ w ∷ r.2) r.3.1) (omega arith) r.6
 
+    -- behind an option of one word
     by_flag : (option : OneOption) → word ∷ [] ≡ option_words option → IsFree old.options option
         × (with_given (Destination ∷ left) old (with_option old.options option) ≡ t)
         → ReadsParts (Destination ∷ left) at (word ∷ words) old new
@@ -157,6 +160,7 @@ option_led left old at word words new t e rest =
         one_option option left old new one.0 (word ∷ words) words at (at + 1) (ap (λ l. l ++ words) is)
         (omega (arith, ap (λ (l : Words). length l) is)) (at_stage (with_given (Destination ∷ left) old (with_option old.options option)) one.1)
 
+    -- behind the destination's name
     by_name : (is_name word ≡ true) × (stage left next.Part (record old { name = at }) ≡ t) → ReadsParts (Destination ∷ left) at (word ∷ words) old new
     by_name one = (
       word ∷ [],
@@ -217,6 +221,7 @@ part_led (Volume ∷ left) old at word words new t e rest = of (number_of word) 
         let end = subst (λ (s : Stage). Rest s.next s.left s.read (at + 1) words new) (sym one.1) rest in
         (n, word, number_sound n word is, one.0, ap (λ l. word ∷ l) end.0, end.1)
 
+-- behind the id of a subvolume
 id_led : (left : List Part) (old : Read) (at : ℕ) (word : List ℕ) (words : Words) (new : Read) (t : Stage)
     → behind_id left old word ≡ Some t → Rest t.next t.left t.read (at + 1) words new → Rest next.Id left old at (word ∷ words) new
 id_led left old at word words new t e rest = of (number_of word) refl e
@@ -242,6 +247,7 @@ id_led left old at word words new t e rest = of (number_of word) refl e
         )
         in_range false fits e = absurd (cc e)
 
+-- behind a word, whatever may come next at its place
 led : (n : Next) (left : List Part) (old : Read) (at : ℕ) (word : List ℕ) (words : Words) (new : Read) (t : Stage)
     → behind n left old at word ≡ Some t → Rest t.next t.left t.read (at + 1) words new → Rest n left old at (word ∷ words) new
 led next.Part left old at word words new t e rest = part_led left old at word words new t e rest
@@ -252,6 +258,7 @@ led next.Image left old at word words new t e rest =
     (All-cons IsName word words one.0 names.0, names.1)
 led next.End left old at word words new t e rest = absurd (cc e)
 
+-- what the walk accepts from a place on is what was to be read from there on
 pub sound : (n : Next) (left : List Part) (old : Read) (at : ℕ) (words : Words) (new : Read) → Accepts (stage left n old) at words new
     → Rest n left old at words new
 sound next.Part left old at [] new e = absurd (cc e)
@@ -326,6 +333,7 @@ no_option name option here other is not_name = of (bytes_eq name option) (bytes_
     of true d = absurd (cc (sym is ∙ ap is_name (d.0 refl) ∙ not_name))
     of false d = refl
 
+-- the name of a destination leads on
 named_on : (left : List Part) (old : Read) (at : ℕ) (name : List ℕ) → is_name name ≡ true
     → behind_option left old at name ≡ Some (stage left next.Part (record old { name = at }))
 named_on left old at name is =
@@ -333,6 +341,7 @@ named_on left old at name is =
     ∙ no_option name (codes "-D") _ _ is refl ∙ no_option name (codes "-i") _ _ is refl ∙ ap
     (λ b. cond b (Some (stage left next.Part (record old { name = at }))) None) is
 
+-- a word is itself, by the test
 pub same_word : (word : List ℕ) → bytes_eq word word ≡ true
 same_word word = of (bytes_eq word word) (bytes_eq-Decides word word)
   where
@@ -344,12 +353,14 @@ same_word word = of (bytes_eq word word) (bytes_eq-Decides word word)
 abbrev at_end : Option Stage → Option Read
 at_end o = option_and_then (λ (t : Stage). read_by t.next t.read) o
 
+-- the names of further images are accepted
 names_accepted : (left : List Part) (old : Read) (at : ℕ) (names : Words) → All IsName names → Accepts (stage left next.Image old) at names old
 names_accepted left old at [] all = refl
 names_accepted left old at (word ∷ names) all =
     ap (λ b. at_end (option_and_then (λ s. reached s (at + 1) names) (cond b (Some (stage left next.Image old)) None))) (all 0 word (omega arith))
     ∙ names_accepted left old (at + 1) names (λ k d lt. all (suc k) d (omega (arith, lt)))
 
+-- words that some parts of a sentence take are accepted
 pub accepted : (left : List Part) (at : ℕ) (words : Words) (old new : Read) → ReadsParts left at words old new → Accepts (stage left next.Part old) at words new
 accepted [] at [] old new reads = absurd reads.0
 accepted [] at (first ∷ more) old new reads =
@@ -399,6 +410,7 @@ accepted (Volume ∷ left) at words old new reads =
     (cond b (Some (stage left next.End (record old { number = reads.0; images = at + 1 }))) None))) reads.3
     ∙ ap (λ r. Some r) (sym reads.5)
 
+-- what is to be read from a place on is accepted from there on
 pub complete : (n : Next) (left : List Part) (old : Read) (at : ℕ) (words : Words) (new : Read) → Rest n left old at words new
     → Accepts (stage left n old) at words new
 complete next.Part left old at words new reads = accepted left at words old new reads
@@ -414,9 +426,11 @@ complete next.End left old at words new r = ap (λ l. at_end (reached (stage lef
 
 -- ---- from each place some words lead on to a sentence
 
+-- some name: `a`
 abbrev some_name : List ℕ
 some_name = 97 ∷ []
 
+-- it is the name of a file, too
 some_file : is_file some_name ≡ true
 unfolding is_utf8 chars encode_utf8
 some_file = refl
@@ -430,6 +444,7 @@ five_is = (omega arith, sym (decimal_digit 5 (omega arith)))
 one_is : IsNumber 1 (codes "1")
 one_is = (omega arith, sym (decimal_digit 1 (omega arith)))
 
+-- any parts of a sentence take some words
 some_words : (left : List Part) (at : ℕ) (old : Read) → (words : Words) × (new : Read) × ReadsParts left at words old new
 some_words [] at old = (some_name ∷ [], record old { images = at }, (All-cons IsName some_name [] refl (All-nil IsName), refl))
 some_words (Word this ∷ left) at old =
@@ -455,6 +470,7 @@ some_words (File ∷ left) at old =
     (some_name ∷ more.0, more.1, (some_name ∷ [], more.0, record old { file = at }, refl, (some_name, some_file, refl, refl), more.2))
 some_words (Volume ∷ left) at old = (codes "1" ∷ [], record old { number = 1; images = at + 1 }, (1, codes "1", one_is, refl, refl, refl))
 
+-- from each place on some words are accepted
 pub live : (n : Next) (left : List Part) (old : Read) (at : ℕ) → (words : Words) × (new : Read) × Accepts (stage left n old) at words new
 live next.Part left old at = let some = some_words left at old in (some.0, some.1, accepted left at some.0 old some.1 some.2)
 live next.Id left old at =

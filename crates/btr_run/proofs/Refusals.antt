@@ -13,14 +13,16 @@ open_no_out : (refusal : OpenFault) → open_answer refusal ≢ OutFault
 open_no_out (opening.Tree (tree.Lost a)) e = cc
 open_no_out refusal e = cc
 
+-- nor is it one of the sink
 open_no_sink : (refusal : OpenFault) → open_answer refusal ≢ SinkFault
 open_no_sink (opening.Tree (tree.Lost a)) e = cc
 open_no_sink refusal e = cc
 
--- nor of the sink
+-- so it is neither of these faults
 pub open_no_fault : (refusal : OpenFault) → IsNoFault (open_answer refusal)
 open_no_fault refusal = record { no_out = open_no_out refusal; no_sink = open_no_sink refusal }
 
+-- the answer of a refusal of opening has a line
 pub open_line : (refusal : OpenFault) → error_line (open_answer refusal) ≢ []
 open_line (opening.Tree (tree.Lost a)) e = cc
 open_line refusal e = cc

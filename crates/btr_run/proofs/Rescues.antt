@@ -14,7 +14,8 @@ use Rattle.btr_read.specs.Want.{addr_of, passes}
 use Rattle.btr_read.specs.declared.want.Want.{Want}
 use Rattle.btr_restore.specs.Committed.{Commit, committed, want_of}
 use Rattle.btr_restore.specs.Journey.{journey}
-use Rattle.btr_scrub.proofs.Lists.{all_in, in_any}
+use Rattle.btr_scrub.proofs.Lists.{in_any}
+use Rattle.btr_scrub_copies.proofs.Turning.{all_at}
 use Rattle.btr_scrub.specs.BlocksInRows.{In}
 use Rattle.btr_scrub.proofs.Blockwise.{of_targets}
 use Rattle.btr_scrub.proofs.Survival.{of_filter}
@@ -51,21 +52,24 @@ had left addr t c there stand pass = by (passing left t) refl
 
 module _ (images left : Images) (fs : Filesystem) (start : Start) (C : Commit) (known : IsCommitted images (filesystem_as fs) C)
     (opened : filesystem_of images ≡ Ok fs) (keeps : KeepsBlocks images left) where
+  -- a checked block that can be spared has a candidate that passes in what is left
   block_had : (addr : ℕ) (t : Target) → In t (blocks images (filesystem_as fs)) → CanBeSpared images (filesystem_as fs) C t
       → IsWhole (or_lost addr (slice_get (passing left t) 0))
   block_had addr t there spared =
       let stands_for = in_any (λ c. (stands t c ≡ true) × (C t.want ≡ Some (value_of left t c))) (candidates t)
-      (all_in (λ t. CanBeSpared images (filesystem_as fs) C t → StandsFor left C t) (blocks images (filesystem_as fs)) t
+      (all_at (λ t. CanBeSpared images (filesystem_as fs) C t → StandsFor left C t) (blocks images (filesystem_as fs)) t
       (keeps fs C opened known) there spared) in
       let c = stands_for.0 in
       let pass = told_at (C t.want) (λ bytes. passes fs.layout.setting t.want bytes ≡ true) (value_of left t c) stands_for.2.1 (known.pass t.want) in
       had left addr t c stands_for.1 stands_for.2.0
       (ap (λ s. passes s t.want (value_of left t c)) (setting_of fs.layout (met images (filesystem_as fs)) t there) ∙ pass)
 
+  -- a want that is sought at such a block comes to its bytes
   found : (want : Want) (layout : Layout) (t : Target) → sought layout want ≡ Ok t → In t (blocks images (filesystem_as fs))
       → CanBeSpared images (filesystem_as fs) C t → IsWhole (fate left layout want)
   found want layout t is there spared = subst IsWhole (sym (ap (fate_of left (addr_of want)) is)) (block_had (addr_of want) t there spared)
 
+  -- a want of the volume that is such a block, or is tested by nothing, comes to bytes
   unit_found : (want : VolumeWant) → IsSparedOf images fs start C want → HasPlain left start want → IsWhole (volume_map start (fate left) want)
   unit_found want unit plain = by (is_plain (want_of want)) refl
     where
@@ -80,6 +84,7 @@ module _ (images left : Images) (fs : Filesystem) (start : Start) (C : Commit) (
           let u = in_any (λ t. (sought_for start want ≡ Ok t) × CanBeSpared images (filesystem_as fs) C t) (blocks images (filesystem_as fs)) (unit e) in
           checked want u.0 u.1 u.2.0 u.2.1
 
+  -- so does each of some wants
   each_found : (wants : List VolumeWant) → Each (IsSparedOf images fs start C) wants → Each (HasPlain left start) wants
       → Each (λ want. IsWhole (volume_map start (fate left) want)) wants
   each_found [] units plains = tt

@@ -1,11 +1,10 @@
 -- What a row of the table comes to: where the filesystem isn't opened, and where a call did what some run of its program says, whatever failed.
-use Rattle.std.proofs.Common.{◌≡◌, ◌≢◌, ◌⊎◌, inl, inr, ⊎_elim, ℕ, List, [], ◌∷◌, Option, Some, None, Result, Ok, Err, refl, ap, ◌∙◌, sym, subst, arith}
+use Rattle.std.proofs.Common.{◌≡◌, ◌≢◌, ◌⊎◌, inl, inr, ⊎_elim, ℕ, List, [], Option, Some, None, Result, Ok, Err, refl, ap, ◌∙◌, sym, subst, arith}
 use Rattle.std.specs.Option.{IfSome}
 use Rattle.btr_listing.specs.Step.{Step, part}
 use Rattle.btr_prog.specs.Answers.{Follows}
 use Rattle.btr_prog.specs.Calls.{Any, First}
 use Rattle.btr_prog.specs.Goes.{GoesTo}
-use Rattle.btr_prog.specs.Maps.{Each}
 use Rattle.btr_prog.specs.Prog.{Run, exec, needs}
 use Rattle.btr_prog.proofs.Choices.{goes_one}
 use Rattle.btr_rack.specs.Rack.{NoneFailed, OnlyReads, Seen, Steady}
@@ -25,17 +24,19 @@ use Rattle.btr_walk.specs.Reading.{Map, UnreadBlock, unread_by}
 use Rattle.btr_run.specs.Behind.{AnyFault, HasTreeCause, IfSteady, IsFault}
 use Rattle.btr_run.specs.Filesystem.{Filesystem, IsRefusal, MayMend, OpensAs, OpensFilesystem, filesystem_in, filesystem_of}
 use Rattle.btr_run.specs.Listed.{stopped_answer}
-use Rattle.btr_run.specs.Outcomes.{Stands, refused}
+use Rattle.btr_run.specs.Outcomes.{DidAndTold, refused}
 use Rattle.btr_run.specs.Rows.{IsRestored, IsRowDone, IsRowOrUnread, Row, listing_row, program_row, row_in, row_outcome}
 use Rattle.btr_run.specs.Unopened.{IsOrUnopened}
 use Rattle.btr_run.specs.declared.answer.Answer.{Answer}
 use Rattle.btr_run.specs.declared.answer.Answer.TheVariants.{ImageFault, Limit}
 use Rattle.btr_run.proofs.Agreements.{unopened_comes}
-use Rattle.btr_run.proofs.Coming.{comes_also, when_told}
+use Rattle.btr_run.proofs.Coming.{comes_also}
+use Rattle.btr_read.proofs.Fetched.{map_some}
 use Rattle.btr_run.proofs.Filesystems.{opened_layout}
 use Rattle.btr_run.proofs.Listings as listings
 use Rattle.btr_run.proofs.Orders.{did_stand}
 use Rattle.btr_run.proofs.TreesShown.{told_where, unopened_behind}
+use Rattle.btr_trial.proofs.Listings.{one_map}
 
 -- what a row comes to, by the filesystem
 pub row_by : (row : Row) (images : Images) → row_outcome row images ≡ row_in row images (filesystem_of images)
@@ -60,7 +61,7 @@ pub row_unopened : (row : Row) (old new : Seen) (x : Outside) (answer result : A
 row_unopened row old new x answer result is refusal content opened reads image tree hidden counted = record {
   effect = listings.unopened_effect (row.MayWant x.out_calls) answer result is refusal (row_outcome row) (row_refused row) old.account new.account old.held x
       content;
-  agreed = when_told old.held _ _ (λ images comes agreed.
+  agreed = map_some old.held _ _ (λ images comes agreed.
       comes_also (row.MayWant x.out_calls) (row.MayWant x.out_calls) (IsOrUnopened images (row_outcome row images)) (IsRowOrUnread row images) x x result
       (λ u. u)
       (λ outcome o. ⊎_elim (λ is. inl is) (λ unread. inr (inr unread)) o) (comes agreed))
@@ -68,11 +69,6 @@ row_unopened row old new x answer result is refusal content opened reads image t
   told = listings.unopened_told (row.MayWant x.out_calls) answer result is refusal row.MayBe x;
   cause = unopened_behind answer result is refusal AnyFault old new reads image tree hidden counted;
 }
-
--- the map of the first copies is one map
-one_map : (B : Map) (ws : List Want) → Each (λ w. (i : ℕ) → B w ≡ B w) ws
-one_map B [] = tt
-one_map B (w ∷ ws) = (λ i. refl, one_map B ws)
 
 -- a program has one run by one map
 pub one_run : {A : Type 0} (p : Program Step A) (B : Map) (r : Run Want Fault Step A) → GoesTo (λ (n : ℕ). B) p r → r ≡ exec B p
@@ -95,12 +91,14 @@ module _ {A : Type 0} (CallsSink : Type 0) (left_out : A → ℕ) (run_by : File
   abbrev layout : Layout
   layout = volume.store.layout
 
+  -- the block of a want could not be read in these calls
   abbrev Is : UnreadBlock → Want → Type 0
   Is = unread_by layout mid new
 
   abbrev fs : Filesystem
   fs = filesystem_in volume
 
+  -- the row of such a listing
   abbrev row : Row
   row = listing_row CallsSink left_out run_by IsRun
 
@@ -108,9 +106,11 @@ module _ {A : Type 0} (CallsSink : Type 0) (left_out : A → ℕ) (run_by : File
   abbrev run : Images → Run Want Fault Step A
   run images = run_by fs (fate images layout)
 
-  stands : Stands x y did.done []
+  -- the steps that the call did stand in the sink and in the output
+  stands : DidAndTold x y did.done []
   stands = did_stand layout mid new volume after x y did
 
+  -- what was done by the block map of the images follows the row's run over them
   by_run : (images : Images) → Follows_by (IsRun fs) result Is (λ n. fate images layout) did.done → Follows Is part [] (run images) did.done (ended result)
   by_run images goes = subst (λ (r : Run Want Fault Step A). Follows Is part [] r did.done (ended result)) (one fs (fate images layout) goes.0 goes.1) goes.2
 
@@ -119,7 +119,7 @@ module _ {A : Type 0} (CallsSink : Type 0) (left_out : A → ℕ) (run_by : File
   steadily =
       told_where mid.held (Steady mid.account.faults new.account.faults) (λ images. Follows Is part [] (run images) did.done (ended result))
       (λ steady.
-      when_told mid.held (λ images. Follows_by (IsRun fs) result Is (λ n. fate images layout) did.done)
+      map_some mid.held (λ images. Follows_by (IsRun fs) result Is (λ n. fate images layout) did.done)
       (λ images. Follows Is part [] (run images) did.done (ended result))
       (λ images goes. by_run images goes) (did.content.calls.content First (omega (arith, did.content.calls.later, steady.0), steady.1)))
 
@@ -127,6 +127,7 @@ module _ {A : Type 0} (CallsSink : Type 0) (left_out : A → ℕ) (run_by : File
   abbrev IsChosen : Images → Run Want Fault Step A → Type 0
   IsChosen images r = IsRun fs (λ n. choices images n layout) r
 
+  -- where the images agree, what was done follows one of their runs
   chosen : IfSome mid.held (λ images. Agreed images layout → (r : Run Want Fault Step A) × IsChosen images r × Follows Is part [] r did.done (ended result))
   chosen = of mid.held refl
     where
@@ -137,6 +138,7 @@ module _ {A : Type 0} (CallsSink : Type 0) (left_out : A → ℕ) (run_by : File
           subst (λ (o : Option Images). IfSome o (λ i. (r : Run Want Fault Step A) × IsChosen i r × Follows Is part [] r did.done (ended result))) told
           (did.content.calls.content Any (subst (λ (o : Option Images). IfSome o (λ i. Agreed i layout)) (sym told) agreed))
 
+  -- the row was done
   pub row_done : IfSteady old.held old.account mid.account (λ images. OpensFilesystem images (Ok volume))
       → IfSome old.held (λ images. OpensAs images old mid (Ok volume)) → IsRowDone row old new x y answer
   row_done content opened = record {

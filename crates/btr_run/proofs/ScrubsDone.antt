@@ -59,11 +59,14 @@ use Rattle.btr_run.specs.declared.plan.Command.TheVariants.{Scrub}
 use Rattle.btr_run.proofs.Filesystems.{opened_layout}
 use Rattle.btr_run.proofs.Agreements.{agreeing, agreeing_opened}
 use Rattle.btr_run.proofs.Found.{found_line, found_no_memory}
-use Rattle.btr_run.proofs.Causing.{rose_behind, some_fresh}
-use Rattle.btr_run.proofs.Checks.{listed_no_image, listed_no_tree, listed_none, stop_calm, stop_line, stop_no_image, stop_none}
+use Rattle.btr_volume.proofs.Readings.{some_fresh}
+use Rattle.btr_volume.proofs.Readings.{rose_behind}
+use Rattle.btr_run.proofs.Checks.{listed_no_image, listed_no_tree, listed_none, stop_no_fault, stop_line, stop_no_image, stop_none}
 use Rattle.btr_run.proofs.Faulting.{no_tree, tree_back, tree_in}
 use Rattle.btr_run.proofs.TreesShown.{NoneOf, mends_of, none_unread, steadily}
-use Rattle.btr_run.proofs.Mendings.{answered, each_told, images_by, the_images, left_nothing, outcome_by, steady_not_rose, stop_place, left_alone, told_at}
+use Rattle.btr_run.proofs.Mendings.{answered, each_told, images_by, left_nothing, outcome_by, stop_place, left_alone, told_at}
+use Rattle.btr_trial.proofs.Filesystems.{images_in}
+use Rattle.btr_read.proofs.Compared.{steady_not_rose}
 use Rattle.btr_run.proofs.Mendings.{unwritten}
 use Rattle.btr_run.proofs.Mendings.{writes_by}
 use Rattle.btr_volume.specs.Stops.{stop_halt}
@@ -82,6 +85,7 @@ module _ (write : Bool) (old mid : Seen) (first : OnlyReads old mid) (volume : V
   abbrev fs : scrubbed.Filesystem
   fs = filesystem_as (filesystem_in volume)
 
+  -- the images' filesystem is the volume's, and something holds of their block map
   abbrev Both : (Map → Type 0) → Images → Type 0
   Both P images = (filesystem_of images ≡ Ok (filesystem_in volume)) × P (fate images layout)
 
@@ -102,6 +106,7 @@ module _ (write : Bool) (old mid : Seen) (first : OnlyReads old mid) (volume : V
   HasBlocks new = Steady mid.account.faults new.account.faults ⊎ AgreedOn layout mid.held
       → IfSome mid.held (λ images. IsSomeAnd new.held (λ left. (C : Committed) → IsCommitted images fs C → SparedStand images left fs C))
 
+  -- so each checked block that the images' filesystem can spare can be had from what is left
   keeps_blocks : (new : Seen) → HasBlocks new → (images left : Images) → old.held ≡ Some images → new.held ≡ Some left
       → Steady old.account.faults new.account.faults ⊎ AreAgreed images → filesystem_of images ≡ Ok (filesystem_in volume) → KeepsBlocks images left
   keeps_blocks new had images left told told' sure opens other C is_other =
@@ -116,6 +121,7 @@ module _ (write : Bool) (old mid : Seen) (first : OnlyReads old mid) (volume : V
       held : mid.held ≡ Some images
       held = ap (λ (s : Seen). s.held) first.same ∙ told
 
+      -- images that agree do so by the layout of the volume
       agreed_at : AreAgreed images → AgreedOn layout mid.held
       agreed_at agreed = subst (λ (o : Option Images). IfSome o (λ i. Agreed i layout)) (sym held)
           (told_at old.held (λ i. AreAgreed i → Agreed i layout) images told
@@ -126,12 +132,14 @@ module _ (write : Bool) (old mid : Seen) (first : OnlyReads old mid) (volume : V
 
   -- a device isn't given
   module _ (stripe : Stripe) (missing : first_missing layout ≡ Some stripe) where
+    -- the scrub of the images comes to that refusal, and changes no byte
     missing_to : (images : Images) → filesystem_of images ≡ Ok (filesystem_in volume) → ScrubsTo write images (Err (MissingDevice stripe.devid))
     missing_to images o = inl (
       outcome_by write images ∙ ap (scrub_in write images) o ∙ ap (scrub_unless write images fs) missing,
       images_by images ∙ ap (scrubbed_in images) o ∙ ap (λ m. (effect_unless true images fs m).images) missing,
     )
 
+    -- behind that refusal the images were only read
     missing_behind : IsBehind MayMend IsNoCrossing old mid (MissingDevice stripe.devid)
     missing_behind = record {
       reads = first;
@@ -142,6 +150,7 @@ module _ (write : Bool) (old mid : Seen) (first : OnlyReads old mid) (volume : V
       no_limit = λ n e. cc;
     }
 
+    -- a scrub without a device was done: it is refused
     pub lacking : Scrubs write old mid (Err (MissingDevice stripe.devid))
     lacking = unwritten write old mid (MissingDevice stripe.devid) missing_behind
         (record { no_fault = record { no_out = λ e. cc; no_sink = λ e. cc }; line = λ e. cc })
@@ -150,6 +159,7 @@ module _ (write : Bool) (old mid : Seen) (first : OnlyReads old mid) (volume : V
         (told_at old.held (λ i. Steady old.account.faults mid.account.faults → OpensFilesystem i (Ok volume)) images told content steady)))
 
   module _ (given : first_missing layout ≡ None) (at : Seen) (second : OnlyReads mid at) where
+    -- the images were only read until the blocks were listed
     all : OnlyReads old at
     all = reads_more first second
 
@@ -163,6 +173,7 @@ module _ (write : Bool) (old mid : Seen) (first : OnlyReads old mid) (volume : V
     )
 
     module _ (why : Stop) (cause : StopCause {A = Tally} layout mid at (Err why)) where
+      -- the stop of a listing is one of a call that only reads blocks
       reading : OfReading why
       reading = of why cause
         where
@@ -172,6 +183,7 @@ module _ (write : Bool) (old mid : Seen) (first : OnlyReads old mid) (volume : V
           of stop.Memory c = tt
           of other c = absurd c
 
+      -- a fault of a tree at which the listing stopped has its cause, but for a block that crosses
       told_cause : HasToldCause IsNoCrossing old at (stop_answer why)
       told_cause f e told = (layout, opened_layout old mid at volume first second opened, of why cause (ap tree_in e ∙ tree_back f))
         where
@@ -193,6 +205,7 @@ module _ (write : Bool) (old mid : Seen) (first : OnlyReads old mid) (volume : V
           of stop.Out c e = absurd (cc e)
           of stop.Memory c e = absurd (cc e)
 
+      -- what lies behind the answer of a listing that stopped
       behind : IsBehind MayMend IsNoCrossing old at (stop_answer why)
       behind = record {
         reads = all;
@@ -203,10 +216,12 @@ module _ (write : Bool) (old mid : Seen) (first : OnlyReads old mid) (volume : V
         no_limit = λ n e. subst NoneOf e (stop_none why reading);
       }
 
+      -- a scrub whose listing stopped was done, if its answer is what the images come to
       pub halted : IfSteady old.held old.account at.account (λ images. ScrubsTo write images (Err (stop_answer why)))
           → Scrubs write old at (Err (stop_answer why))
-      halted to = unwritten write old at (stop_answer why) behind (record { no_fault = stop_calm why reading; line = stop_line why reading }) to
+      halted to = unwritten write old at (stop_answer why) behind (record { no_fault = stop_no_fault why reading; line = stop_line why reading }) to
 
+      -- a scrub whose listing stopped by what the blocks are was done
       pub listing_stopped : (done : List Met) → Tells layout mid at
           (λ B. Follows (unread_by layout mid at) no_part [] (exec B (units_in volume.sup layout.chunks)) done (Err (stop_halt why)))
           → Scrubs write old at (Err (stop_answer why))
@@ -238,6 +253,7 @@ module _ (write : Bool) (old mid : Seen) (first : OnlyReads old mid) (volume : V
     refused_cause (tree.Crosses a) from want u = inl (want, u)
     refused_cause (tree.Malformed a) from want u = tt
 
+    -- a scrub whose list is refused was done
     pub listing_refused : (f : TreeFault) (wants : List Want) → IsFirstRefused layout 0 wants f → Tells layout mid at (λ B. ⊥)
         → Scrubs write old at (Err (tree_answer f))
     listing_refused f wants r tells = let one = refused_one layout 0 wants f r in halted (stop.Tree f) (refused_cause f one.0 one.1.0 one.1.1)
@@ -246,9 +262,11 @@ module _ (write : Bool) (old mid : Seen) (first : OnlyReads old mid) (volume : V
 
     -- an image failed as listed blocks were looked at
     module _ (new : Seen) (later : OnlyReads at new) (slot : ℕ) (f : FailsAt (LiesInStripe layout) slot at new) where
+      -- the images were only read until that image failed
       looked : OnlyReads old new
       looked = reads_more all later
 
+      -- the call that failed then is a read of the scrub, in a stripe of the layout
       unlooked : ScrubFails old new slot
       unlooked = record {
         mid = at;
@@ -268,6 +286,7 @@ module _ (write : Bool) (old mid : Seen) (first : OnlyReads old mid) (volume : V
         };
       }
 
+      -- a scrub of which an image failed then was done: it answers that image
       pub listing_failed : Scrubs write old new (Err (ImageFault slot))
       listing_failed = left_alone write old new (ImageFault slot) looked
           (record {
@@ -291,9 +310,11 @@ module _ (write : Bool) (old mid : Seen) (first : OnlyReads old mid) (volume : V
     -- the blocks were listed, and mended
     module _ (listed : ListedWrites) (countings : ListedCounts) (table : IsTable layout.chunks) (new : Seen) (had : HasBlocks new) (done : List Met)
         (tells : Tells layout mid at (λ B. Follows (unread_by layout mid at) no_part [] (exec B (units_in volume.sup layout.chunks)) done (Ok tt))) where
+      -- the writes that the listed blocks need over some images
       abbrev ws : Images → List Write
       ws images = listed_writes_for layout (wants_among done) images
 
+      -- by this block map the listing comes to its end with the blocks that were listed
       abbrev Is : Map → Type 0
       Is B = Follows (unread_by layout mid at) no_part [] (exec B (units_in volume.sup layout.chunks)) done (Ok tt)
 
@@ -301,15 +322,19 @@ module _ (write : Bool) (old mid : Seen) (first : OnlyReads old mid) (volume : V
           (works : Works layout write (listed_writes_for layout (wants_among done))
           (listed_count_for layout write (wants_among done)) at new
           (first_tally (fold count_met 0 done)) tally ended) where
+        -- where no call failed in all, none failed until the blocks were listed
         since : Steady old.account.faults new.account.faults → Steady old.account.faults at.account.faults
         since steady = (omega (arith, steady.0, works.does.only.later), omega (arith, steady.1, works.does.only.later))
 
+        -- the images are as they were once the blocks were listed
         at_images : (images : Images) → old.held ≡ Some images → at.held ≡ Some images
         at_images images told = ap (λ (s : Seen). s.held) all.same ∙ told
 
+        -- the writes that the listed blocks need are those of the scrub of the images
         writes_are : (images : Images) → done ≡ met images fs → ws images ≡ writes images fs
         writes_are images is = ap (λ d. listed_writes_for layout (wants_among d) images) is ∙ listed images fs
 
+        -- the rack is as before, but for what the images hold and what waits for a sync
         keeps : KeepsRack old new
         keeps = record {
           same = ap (λ (s : Seen). record s { unsynced = new.unsynced; never_synced = new.never_synced }) works.does.only.same
@@ -318,16 +343,19 @@ module _ (write : Bool) (old mid : Seen) (first : OnlyReads old mid) (volume : V
           same_shut = works.does.only.same_shut ∙ all.same_shut;
         }
 
+        -- the images are left with the writes that were done, by how the mending ended
         held_as : (e : Result (Unit {0}) MendFault) → ended ≡ e → (images : Images) → old.held ≡ Some images
             → LeaveImages (λ i. writes_if write (ws i)) (Some images) new.held e
         held_as e is images told = subst (λ (o : Option Images). LeaveImages (λ i. writes_if write (ws i)) o new.held e) (at_images images told)
             (subst (λ r. LeaveImages (λ i. writes_if write (ws i)) at.held new.held r) is works.does.held)
 
+        -- a scrub that only reads leaves each byte
         unheld : write ≡ false → new.held ≡ old.held
         unheld is =
             left_nothing at.held new.held ended (subst (λ b. LeaveImages (λ i. writes_if b (ws i)) at.held new.held ended) is works.does.held)
             ∙ ap (λ (s : Seen). s.held) all.same
 
+        -- what stands in the images, by an answer behind which they may have been written
         leaves : (answer : Answer) → MayWrite answer
             → ((images left : Images) → old.held ≡ Some images → new.held ≡ Some left → (lost : ℕ) → answer ≡ found lost → write ≡ true → Both Is images
             → left ≡ scrubbed_images images)
@@ -355,6 +383,7 @@ module _ (write : Bool) (old mid : Seen) (first : OnlyReads old mid) (volume : V
                 (stop_place (λ i. writes_if write (ws i)) images left ended
                 (subst (λ (o : Option Images). LeaveImages (λ i. writes_if write (ws i)) (Some images) o ended) told' (held_as ended refl images told)))
 
+        -- a call of the mending that failed is one of the scrub
         unmended : (slot : ℕ) → FailsAt (IsOfScrub layout) slot (plain at) (plain new) → ScrubFails old new slot
         unmended slot f = record {
           mid = at;
@@ -374,6 +403,7 @@ module _ (write : Bool) (old mid : Seen) (first : OnlyReads old mid) (volume : V
           };
         }
 
+        -- where nothing waited for a sync before, nothing does once the blocks were listed
         none_yet : old.unsynced ≡ [] → at.unsynced ≡ []
         none_yet none = ap (λ (s : Seen). s.unsynced) all.same ∙ none
 
@@ -390,6 +420,7 @@ module _ (write : Bool) (old mid : Seen) (first : OnlyReads old mid) (volume : V
           waits = works.waits (none_yet none);
         }
 
+        -- what lies behind an answer that is no fault of a tree and none that the words or the superblocks alone decide
         by_none : (answer : Answer) → tree_in answer ≡ None → NoneOf answer → ((slot : ℕ) → answer ≡ ImageFault slot → ScrubFails old new slot)
             → IsBehindCommand (Scrub write) old new answer
         by_none answer none other image = record {
@@ -403,6 +434,7 @@ module _ (write : Bool) (old mid : Seen) (first : OnlyReads old mid) (volume : V
           no_limit = λ n e. subst NoneOf e other;
         }
 
+        -- the scrub was done, by how the mending ended
         mended : (e : Result (Unit {0}) MendFault) → ended ≡ e → Scrubs write old new (answered (whole.answer_of e tally))
         mended (Err (mend.Image slot)) is = record {
           content = each_told old.held (λ images. Steady old.account.faults new.account.faults → ScrubsTo write images (Err (ImageFault slot)))
@@ -447,12 +479,13 @@ module _ (write : Bool) (old mid : Seen) (first : OnlyReads old mid) (volume : V
           leaves = λ w. record {
             repaired = each_told old.held _ (λ images told steady enough. stands images told w (sure_told Is at second tells images told (inl (since steady))));
             left = leaves (found tally.lost) (inr (tally.lost, refl))
-                (λ images left told told' lost e w h. the_images left (scrubbed_images images) (sym told' ∙ stands images told w h)) w;
+                (λ images left told told' lost e w h. images_in left (scrubbed_images images) (sym told' ∙ stands images told w h)) w;
             synced = λ lost e none. subst (λ r. OnOk r (at.unsynced ≡ [] → new.unsynced ≡ [])) is works.synced (none_yet none);
             waits = λ none. inr (in_chunk (found tally.lost) (λ slot e. absurd (listed_no_image tally.lost (Ok tt) slot e)) none);
           };
         }
           where
+            -- the counts are those that follow from the images
             tally_is : (images : Images) → old.held ≡ Some images → done ≡ met images fs → tally ≡ counts write images fs
             tally_is images told same =
                 told_at at.held (λ i. tally ≡ listed_count_for layout write (wants_among done) i
@@ -464,11 +497,13 @@ module _ (write : Bool) (old mid : Seen) (first : OnlyReads old mid) (volume : V
                 (first_tally (fold count_met 0 d))) same
                 ∙ countings images fs write table
 
+            -- what the scrub comes to over the images is the line of these counts
             counted : (images : Images) → old.held ≡ Some images → Both Is images → scrub_outcome write images ≡ showing (tally_shown tally)
             counted images told h =
                 outcome_by write images ∙ ap (scrub_in write images) h.0 ∙ ap (scrub_unless write images fs) given ∙ ap (scrub_ended write images fs) h.1.1
                 ∙ ap (λ t. showing (tally_shown t)) (sym (tally_is images told h.1.0))
 
+            -- the images hold the writes that mend their filesystem
             stands : (images : Images) → old.held ≡ Some images → write ≡ true → Both Is images → new.held ≡ Some (scrubbed_images images)
             stands images told w h =
                 held_as (Ok u) is images told ∙ ap (λ b. Some (fold write_on images (writes_if b (ws images)))) w
@@ -476,6 +511,7 @@ module _ (write : Bool) (old mid : Seen) (first : OnlyReads old mid) (volume : V
                 ∙ sym (ap (λ (i : Images). Some i) (images_by images ∙ ap (scrubbed_in images) h.0 ∙ ap (λ m. (effect_unless true images fs m).images) given
                 ∙ ap (λ r. (effect_of_ending true images fs r).images) h.1.1))
 
+        -- a scrub whose blocks were listed was done, however its mending ended
         pub worked : Scrubs write old new (answered (whole.answer_of ended tally))
         worked = mended ended refl
 

@@ -38,6 +38,7 @@ use Rattle.btr_run.proofs.Found.{found_no_out, found_no_sink}
 pub its_command : (words : Words) (plan : Plan) (number : ℕ) → IsSentence plan words → AsksToTry words number → plan.command ≡ SelfTest number
 its_command words plan number sentence asks = ap (λ (p : Plan). p.command) (one_plan words plan asks.plan sentence asks.sentence) ∙ asks.command
 
+-- words that ask for a self-test ask for no command that takes images
 pub no_trial : (words : Words) (plan : Plan) (number : ℕ) → IsSentence plan words → AsksToTry words number → TakesImages plan.command → ⊥
 no_trial words plan number sentence asks takes = takes number (its_command words plan number sentence asks)
 
@@ -46,6 +47,7 @@ of_volume : (volume : Option Images) (number : ℕ) → IsTrialOf volume number 
 of_volume None number = ([], refl)
 of_volume (Some images) number = refl
 
+-- what is shown of a volume that is the told one, if one is told
 pub of_rack : (volume : Option Images) (number : ℕ) (images : Images) → IfSome volume (λ told. told ≡ images)
     → IsTrialOf volume number (showing (tried_shown number images))
 of_rack None number images told = (images, refl)
@@ -78,19 +80,23 @@ AnswersTo (Err stop) answer = answer ≡ stop_answer stop
 
 -- beside any sink
 module _ (volume : Option Images) (number : ℕ) (sink : Sink) (calls : CallAccount) where
+  -- a self-test did this and answered so: some trial of the volume came, or a first part of it
   abbrev TriesTo : Option (List ℕ) → Option (List ℕ) → CallAccount → CallAccount → Answer → Type 0
   TriesTo old new before after answer = HasOneOutcome (Unit {0}) (IsTrialOf volume number) (outside sink calls old before) (outside sink calls new after) answer
 
+  -- how many lines differ is no fault of the output or of the sink
   no_fault : (t : Images) → IsNoFault (found (differing (trial_of t number)))
   no_fault t = record { no_out = found_no_out (differing (trial_of t number)); no_sink = found_no_sink (differing (trial_of t number)) }
 
   module _ (t : Images) (is : IsTrialOf volume number (showing (tried_shown number t))) (old new : Option (List ℕ)) (before after : CallAccount) where
+    -- all lines were put, or a first part of them where the output refused them
     put_so : (r : Result Unit SinkError) → Puts old new (volume_text number ++ trial_text (trial_of t number)) r → Counts before after r
         → (answer : Answer) → answer ≡ due_after r (found (differing (trial_of t number))) → TriesTo old new before after answer
     put_so r puts counts answer due =
         comes_shown (Unit {0}) (IsTrialOf volume number) (outside sink calls old before) (outside sink calls new after) answer refl refl (λ scarce. tt)
         (record { shown = tried_shown number t; is_one = is; no_fault = no_fault t; put = record { put = r; puts = puts; counts = counts; due = due } })
 
+    -- memory was wanted behind a first part of the lines
     wanted_so : (n : ℕ) × Adds old new (take n (volume_text number ++ trial_text (trial_of t number))) → after ≡ before → (answer : Answer) → answer ≡ Memory
         → TriesTo old new before after answer
     wanted_so part same answer due =
@@ -138,6 +144,7 @@ pub record IsPlain (answer : Answer) : Type 0 where
   pub limit : (which : Which) (n : ℕ) → answer ≢ Limit which n
   pub tree : tree_in answer ≡ None
 
+-- how many lines differ is such an answer
 plain_by : (none : Bool) (count : ℕ) → IsPlain (cond none (Done 0) (Found count))
 plain_by true count = record { image = λ slot e. cc; usage = λ at e. cc; limit = λ which n e. cc; tree = refl }
 plain_by false count = record { image = λ slot e. cc; usage = λ at e. cc; limit = λ which n e. cc; tree = refl }
@@ -156,6 +163,7 @@ pub some_trial : (volume : Option Images) (number : ℕ) (outcome : Outcome) →
 some_trial None number outcome one = one
 some_trial (Some images) number outcome one = (images, one)
 
+-- the answer of a self-test is such a one
 pub is_plain : (volume : Option Images) (number : ℕ) (x y : Outside) (answer : Answer) → HasOneOutcome (Unit {0}) (IsTrialOf volume number) x y answer
     → IsPlain answer
 is_plain volume number x y answer comes = of comes.how comes.ended

@@ -1,24 +1,21 @@
 -- What `super` comes to, by what reading the superblocks found.
 use Rattle.std.proofs.Common.{◌≡◌, ◌≢◌, ℕ, ◌<◌, List, length, get_or, Option, Some, None, Result, Ok, Err, inl, inr, refl, sym, ap, ◌∙◌, subst, arith}
 use Rattle.std.specs.Option.{IfSome, option_map}
-use Rattle.std.specs.List.{slice_get}
 use Rattle.std.specs.declared.alloc.Global.{Global}
-use Rattle.std.proofs.lemmas.List.Folds.{find_at}
-use Rattle.std.proofs.lemmas.Option.{slice_get-get_or}
 use Rattle.std.specs.Prelude.{Vec}
-use Rattle.btr_rack.specs.Rack.{Seen, Account, Steady, NoneFailed, OnlyCounts, OnlyReads, Rose}
+use Rattle.btr_rack.specs.Rack.{Seen, Account, Steady, NoneFailed, OnlyCounts, OnlyReads}
 use Rattle.btr_rack.specs.Out.{CallAccount, Puts, Counts}
 use Rattle.btr_rack.specs.declared.error.SinkError.{SinkError}
 use Rattle.btr_rack.specs.declared.error.SinkError.TheVariants.{Failed as failed_fault, Memory as memory_fault}
-use Rattle.btr_super.specs.Newest.{newest, newest_index, is_newest}
+use Rattle.btr_super.specs.Newest.{newest_index}
 use Rattle.btr_super.specs.declared.superblock.Super.{Super}
 use Rattle.btr_run.specs.Behind.{AnyFault, IsBehind}
 use Rattle.btr_run.specs.Newest.{shown, newest_shown, super_outcome, IsSuperOutcome}
 use Rattle.btr_run.specs.Faults.{open_answer}
-use Rattle.btr_run.specs.Outcomes.{Outcome, due_after, refused, showing, Shows, OrBare, OrMemory}
+use Rattle.btr_run.specs.Outcomes.{Outcome, due_after, refused, showing, ShowsOutcome, OrBare, OrMemory}
 use Rattle.btr_run.specs.Text.{super_text}
 use Rattle.btr_run.specs.declared.answer.Answer.{Answer}
-use Rattle.btr_volume.specs.Opening.{IsCounted, ReadsSupers, SuperUnread, SupersCause}
+use Rattle.btr_volume.specs.Opening.{IsLimited, ReadsSupers, SuperUnread, SupersCause}
 use Rattle.btr_volume.specs.Start.{supers_from}
 use Rattle.btr_volume.specs.declared.fault.OpenFault.{OpenFault}
 use Rattle.btr_volume.specs.declared.fault.OpenFault.TheVariants as opening
@@ -29,11 +26,8 @@ use Rattle.btr_run.proofs.Coming.{shows_bare}
 use Rattle.btr_run.proofs.Faulting.{tree_in, untold}
 use Rattle.btr_run.proofs.Refusals.{open_line, open_no_fault, open_no_usage}
 use Rattle.btr_run.proofs.Openings.{Images}
-
--- the superblock at the index of the newest is the newest
-newest_at : (supers : List Super) (slot : ℕ) (s : Super) → newest_index supers ≡ slot → slot < length supers → s ≡ get_or supers slot s → newest supers ≡ Some s
-newest_at supers slot s index lt is =
-    find_at (is_newest supers) supers ∙ ap (slice_get supers) index ∙ slice_get-get_or supers slot s lt ∙ ap (λ x. Some x) (sym is)
+use Rattle.btr_read.proofs.Compared.{steady_not_rose}
+use Rattle.btr_volume.proofs.Opened.{newest_at}
 
 -- the newest is what is shown
 pub shown_is : (images : Images) (supers : List Super) (slot : ℕ) (s : Super) → supers_from 0 images ≡ Ok supers → newest_index supers ≡ slot
@@ -46,7 +40,8 @@ shown_is images supers slot s read index lt is =
 -- the text of a superblock was put, wholly or in part
 module _ (slot : ℕ) (s : Super) (old new : Option (List ℕ)) (before after : CallAccount) (put : Result Unit SinkError)
     (puts : Puts old new (super_text slot s) put) (counts : Counts before after put) (result : Answer) (due : result ≡ due_after put (Done 0)) where
-  shows : (IsOne : Outcome → Type 0) → IsOne (showing (shown slot s)) → Shows IsOne old new before after result
+  -- the text of the superblock was shown, or a first part of it, as one of some outcomes
+  shows : (IsOne : Outcome → Type 0) → IsOne (showing (shown slot s)) → ShowsOutcome IsOne old new before after result
   shows IsOne is_one = record {
     shown = shown slot s;
     is_one = is_one;
@@ -55,7 +50,8 @@ module _ (slot : ℕ) (s : Super) (old new : Option (List ℕ)) (before after : 
         { put = put; puts = puts; counts = counts; due = due };
   }
 
-  pub shown_told : Shows (OrBare IsSuperOutcome) old new before after result
+  -- whatever failed, some superblock was shown
+  pub shown_told : ShowsOutcome (OrBare IsSuperOutcome) old new before after result
   shown_told = shows (OrBare IsSuperOutcome) (inl (slot, s, refl))
 
 -- and it is that of the newest
@@ -63,19 +59,17 @@ pub shown_effect : (old new : Account) (held : Option Images) (supers : List Sup
     → IfSome held (λ images. supers_from 0 images ≡ Ok supers) → newest_index supers ≡ slot → slot < length supers → s ≡ get_or supers slot s
     → (texts texts' : Option (List ℕ)) (before after : CallAccount) (put : Result Unit SinkError) → Puts texts texts' (super_text slot s) put
     → Counts before after put → (result : Answer) → result ≡ due_after put (Done 0)
-    → IfSome held (λ images. Steady old.faults new.faults → Shows (OrMemory (λ outcome. super_outcome images ≡ Some outcome)) texts texts' before after result)
+    → IfSome held (λ images. Steady old.faults new.faults → ShowsOutcome (OrMemory (λ outcome. super_outcome images ≡ Some outcome)) texts texts' before after
+    result)
 shown_effect old new None supers slot s read index lt is texts texts' before after put puts counts result due = tt
 shown_effect old new (Some images) supers slot s read index lt is texts texts' before after put puts counts result due = λ steady.
     shows slot s texts texts' before after put puts counts result due (OrMemory (λ outcome. super_outcome images ≡ Some outcome))
     (inl (shown_is images supers slot s read index lt is))
 
-steady_not_rose : (before now : ℕ) → Steady before now → Rose before now → ⊥
-steady_not_rose before now steady rose = omega (arith, steady.0, steady.1, rose.0, rose.1)
-
 -- what `super` comes to where there are no superblocks
 refusal_comes : (images : Images) (old new : Seen) (text : Option (List ℕ)) (account : CallAccount) (refusal : OpenFault)
     → SupersCause {T = Vec Super Global} old new (Err refusal) → ReadsSupers images (Err refusal) → Steady old.account.faults new.account.faults
-    → Shows (OrMemory (λ outcome. super_outcome images ≡ Some outcome)) text text account account (open_answer refusal)
+    → ShowsOutcome (OrMemory (λ outcome. super_outcome images ≡ Some outcome)) text text account account (open_answer refusal)
 refusal_comes images old new text account refusal cause read steady = shows_bare _ text account (open_answer refusal) (of refusal cause read)
     (open_no_fault refusal)
   where
@@ -90,32 +84,35 @@ refusal_comes images old new text account refusal cause read steady = shows_bare
 pub supers_read : {T : Type 0} (old new : Seen) (r : Result T OpenFault) → OnlyCounts old new → SupersCause old new r → OnlyReads old new
 supers_read {T} old new r same cause = of r cause
   where
-    calm : NoneFailed old.account new.account → OnlyReads old new
-    calm none = record { same = same; later = omega (arith, none.faults); same_shut = none.shut }
+    unfailing : NoneFailed old.account new.account → OnlyReads old new
+    unfailing none = record { same = same; later = omega (arith, none.faults); same_shut = none.shut }
 
     of : (r : Result T OpenFault) → SupersCause old new r → OnlyReads old new
-    of (Ok x) cause = calm cause
+    of (Ok x) cause = unfailing cause
     of (Err (opening.ImageFault slot)) cause = record { same = same; later = cause.faults.0; same_shut = cause.shut }
-    of (Err (opening.Limit which n)) cause = calm cause.1
+    of (Err (opening.Limit which n)) cause = unfailing cause.1
     of (Err (opening.Tree f)) cause = absurd cause
-    of (Err refusal) cause = calm cause
+    of (Err refusal) cause = unfailing cause
 
 -- where there are no superblocks
 module _ (old new : Seen) (refusal : OpenFault) (cause : SupersCause {T = Vec Super Global} old new (Err refusal)) where
+  -- where no call failed, the answer is what `super` comes to over the images, or memory was wanted
   pub refusal_effect : (held : Option Images) (text : Option (List ℕ)) (account : CallAccount) (result : Answer) → result ≡ open_answer refusal
       → IfSome held (λ images. ReadsSupers images (Err refusal))
-      → IfSome held (λ images. Steady old.account.faults new.account.faults → Shows
+      → IfSome held (λ images. Steady old.account.faults new.account.faults → ShowsOutcome
       (OrMemory (λ outcome. super_outcome images ≡ Some outcome)) text text account account result)
   refusal_effect None text account result is read = tt
   refusal_effect (Some images) text account result is read = λ steady.
-      subst (λ a. Shows (OrMemory (λ outcome. super_outcome images ≡ Some outcome)) text text account account a) (sym is)
+      subst (λ a. ShowsOutcome (OrMemory (λ outcome. super_outcome images ≡ Some outcome)) text text account account a) (sym is)
       (refusal_comes images old new text account refusal cause read steady)
 
+  -- whatever failed, the answer is a refusal before anything else
   pub refusal_told : (IsOne : Outcome → Type 0) (text : Option (List ℕ)) (account : CallAccount) (result : Answer) → result ≡ open_answer refusal
-      → Shows (OrBare IsOne) text text account account result
-  refusal_told IsOne text account result is = subst (λ a. Shows (OrBare IsOne) text text account account a) (sym is)
+      → ShowsOutcome (OrBare IsOne) text text account account result
+  refusal_told IsOne text account result is = subst (λ a. ShowsOutcome (OrBare IsOne) text text account account a) (sym is)
       (shows_bare (OrBare IsOne) text account (open_answer refusal) (inr (refl, open_line refusal)) (open_no_fault refusal))
 
+  -- the images were only read, and an image that is answered has its cause
   pub refusal_behind : (MayFail : Answer → Type 0) (result : Answer) → result ≡ open_answer refusal → OnlyCounts old new
       → IsBehind MayFail AnyFault old new result
   refusal_behind MayFail result is same = subst (IsBehind MayFail AnyFault old new) (sym is) (of refusal cause)
@@ -123,9 +120,10 @@ module _ (old new : Seen) (refusal : OpenFault) (cause : SupersCause {T = Vec Su
       reads : OnlyReads old new
       reads = supers_read {T = Vec Super Global} old new (Err refusal) same cause
 
-      calm : (r : OpenFault) → NoneFailed old.account new.account → tree_in (open_answer r) ≡ None → ((slot : ℕ) → open_answer r ≢ ImageFault slot)
+      -- a refusal by the superblocks, where no call failed
+      unfailing : (r : OpenFault) → NoneFailed old.account new.account → tree_in (open_answer r) ≡ None → ((slot : ℕ) → open_answer r ≢ ImageFault slot)
           → ((n : ℕ) → open_answer r ≢ Limit images_limit n) → IsBehind MayFail AnyFault old new (open_answer r)
-      calm r none no_tree no_image no_limit =
+      unfailing r none no_tree no_image no_limit =
           record {
             reads = reads;
             image = λ slot e. absurd (no_image slot e);
@@ -136,7 +134,8 @@ module _ (old new : Seen) (refusal : OpenFault) (cause : SupersCause {T = Vec Su
             no_limit = no_limit;
           }
 
-      counted : (which : Which) (n m : ℕ) → IsCounted which → open_answer (opening.Limit which n) ≢ Limit images_limit m
+      -- too many stripes or chunks aren't too many images
+      counted : (which : Which) (n m : ℕ) → IsLimited which → open_answer (opening.Limit which n) ≢ Limit images_limit m
       counted images_limit n m counts e = counts
       counted stripes_limit n m counts e = cc
       counted chunks_limit n m counts e = cc
@@ -150,18 +149,18 @@ module _ (old new : Seen) (refusal : OpenFault) (cause : SupersCause {T = Vec Su
         no_usage = open_no_usage (opening.ImageFault slot);
         no_limit = λ n e. cc;
       }
-      of opening.Memory none = calm opening.Memory none refl (λ slot e. cc) (λ n e. cc)
-      of (opening.NoSuper slot) none = calm (opening.NoSuper slot) none refl (λ other e. cc) (λ n e. cc)
-      of (opening.SumKind kind) none = calm (opening.SumKind kind) none refl (λ other e. cc) (λ n e. cc)
-      of (opening.Foreign slot) none = calm (opening.Foreign slot) none refl (λ other e. cc) (λ n e. cc)
-      of (opening.Twin slot) none = calm (opening.Twin slot) none refl (λ other e. cc) (λ n e. cc)
-      of (opening.Diverged slot) none = calm (opening.Diverged slot) none refl (λ other e. cc) (λ n e. cc)
-      of (opening.Unsupported bits) none = calm (opening.Unsupported bits) none refl (λ other e. cc) (λ n e. cc)
-      of opening.Geometry none = calm opening.Geometry none refl (λ other e. cc) (λ n e. cc)
-      of opening.LogPending none = calm opening.LogPending none refl (λ other e. cc) (λ n e. cc)
-      of opening.BadArray none = calm opening.BadArray none refl (λ other e. cc) (λ n e. cc)
-      of (opening.BadChunk start) none = calm (opening.BadChunk start) none refl (λ other e. cc) (λ n e. cc)
-      of (opening.Limit which n) cause = calm (opening.Limit which n) cause.1 refl (λ other e. cc) (λ m. counted which n m cause.0)
+      of opening.Memory none = unfailing opening.Memory none refl (λ slot e. cc) (λ n e. cc)
+      of (opening.NoSuper slot) none = unfailing (opening.NoSuper slot) none refl (λ other e. cc) (λ n e. cc)
+      of (opening.SumKind kind) none = unfailing (opening.SumKind kind) none refl (λ other e. cc) (λ n e. cc)
+      of (opening.Foreign slot) none = unfailing (opening.Foreign slot) none refl (λ other e. cc) (λ n e. cc)
+      of (opening.Twin slot) none = unfailing (opening.Twin slot) none refl (λ other e. cc) (λ n e. cc)
+      of (opening.Diverged slot) none = unfailing (opening.Diverged slot) none refl (λ other e. cc) (λ n e. cc)
+      of (opening.Unsupported bits) none = unfailing (opening.Unsupported bits) none refl (λ other e. cc) (λ n e. cc)
+      of opening.Geometry none = unfailing opening.Geometry none refl (λ other e. cc) (λ n e. cc)
+      of opening.LogPending none = unfailing opening.LogPending none refl (λ other e. cc) (λ n e. cc)
+      of opening.BadArray none = unfailing opening.BadArray none refl (λ other e. cc) (λ n e. cc)
+      of (opening.BadChunk start) none = unfailing (opening.BadChunk start) none refl (λ other e. cc) (λ n e. cc)
+      of (opening.Limit which n) cause = unfailing (opening.Limit which n) cause.1 refl (λ other e. cc) (λ m. counted which n m cause.0)
       of (opening.Tree f) cause = absurd cause
 
 -- where a superblock's text was put, wholly or in part

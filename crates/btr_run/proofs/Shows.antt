@@ -21,7 +21,7 @@ use Rattle.btr_dump.specs.Pieces.{Text}
 use Rattle.btr_dump.specs.Showing.{TextRun, part, whole, PutsText, PutsAsked}
 use Rattle.btr_dump.specs.Stops.{StopCounts}
 use Rattle.btr_run.specs.Filesystem.{fault_answer}
-use Rattle.btr_run.specs.Outcomes.{Outcome, IsNoFault, Shows, showing}
+use Rattle.btr_run.specs.Outcomes.{Outcome, IsNoFault, ShowsOutcome, showing}
 use Rattle.btr_run.specs.Queries.Trees.{whole_answer, asked_answer, ending_answer, shown_by, call_answer}
 use Rattle.btr_run.specs.declared.answer.Answer.{Answer}
 use Rattle.btr_run.specs.declared.answer.Answer.TheVariants.{SinkFault, OutFault, Unread, Memory as wanted}
@@ -77,13 +77,14 @@ cut_text ms before behind left place leaves =
 
 module _ {A : Type 0} (answer : A → Answer) (fine : (a : A) → IsNoFault (answer a)) (r : TextRun A) (IsOne : Outcome → Type 0)
     (one : IsOne (showing (shown_by answer r))) (old new : Option Text) (before after : CallAccount) where
+  -- the answer of a run by its end is no fault of the output or of the sink
   no_fault_in : (e : Result A Fault) → IsNoFault (ending_answer answer e)
   no_fault_in (Ok a) = fine a
   no_fault_in (Err f) = fault_no_fault f
 
   -- all of it was put
   ended : (done : List Text) → Adds old new (whole done) → (ending : Result A Fault) → (done ≡ steps_of r.marks) × (r.ending ≡ ending) → after ≡ before
-      → Shows IsOne old new before after (ending_answer answer ending)
+      → ShowsOutcome IsOne old new before after (ending_answer answer ending)
   ended done adds ending follows same = record {
     shown = shown_by answer r;
     is_one = one;
@@ -93,7 +94,7 @@ module _ {A : Type 0} (answer : A → Answer) (fine : (a : A) → IsNoFault (ans
 
   -- a first part of it was put, since the output failed
   failed : (done : List Text) → Adds old new (whole done) → Breaks part (λ ws. Unit {0}) r done → Counts {T = Unit {0}} before after (Err sink.Failed)
-      → Shows IsOne old new before after OutFault
+      → ShowsOutcome IsOne old new before after OutFault
   failed done adds broke counts =
       let cut = cut_text r.marks broke.before broke.behind broke.left broke.place broke.leaves in record {
         shown = shown_by answer r;
@@ -104,7 +105,7 @@ module _ {A : Type 0} (answer : A → Answer) (fine : (a : A) → IsNoFault (ans
 
   -- or wanted memory
   wants : (done : List Text) → Adds old new (whole done) → Breaks part (λ ws. Unit {0}) r done → Counts {T = Unit {0}} before after (Err sink.Memory)
-      → Shows IsOne old new before after wanted
+      → ShowsOutcome IsOne old new before after wanted
   wants done adds broke counts =
       let cut = cut_text r.marks broke.before broke.behind broke.left broke.place broke.leaves in record {
         shown = shown_by answer r;
@@ -118,8 +119,9 @@ module _ {A : Type 0} (answer : A → Answer) (fine : (a : A) → IsNoFault (ans
       (unread : (upto : List (Mark Want Text)) (rest : List (Mark Want Text)) → r.marks ≡ upto ++ rest
       → Names Is (record { addr = a; slot = slot }) (wants_of upto)
       → IsOne (showing (record { answer = Unread a slot; text = whole (steps_of upto) }))) where
+    -- all up to there was put, and the answer names that block
     broken : (done : List Text) → Adds old new (whole done) → Breaks no_part (λ ws. Names Is (record { addr = a; slot = slot }) ([] ++ ws)) r done
-        → after ≡ before → Shows IsOne old new before after (Unread a slot)
+        → after ≡ before → ShowsOutcome IsOne old new before after (Unread a slot)
     broken done adds broke same = record {
       shown = record { answer = Unread a slot; text = whole (steps_of broke.before) };
       is_one = unread broke.before broke.behind broke.place broke.holds;
@@ -133,9 +135,11 @@ module _ {A : Type 0} (answer : A → Answer) (fine : (a : A) → IsNoFault (ans
       };
     }
 
+-- the answer where a text was shown to its end is no fault of the output or of the sink
 fine_whole : (u : Unit {0}) → IsNoFault (whole_answer u)
 fine_whole u = record { no_out = λ e. cc; no_sink = λ e. cc }
 
+-- nor is it where a tree was asked for, be there one or none
 fine_asked : (found : Option ℕ) → IsNoFault (asked_answer found)
 fine_asked None = record { no_out = λ e. cc; no_sink = λ e. cc }
 fine_asked (Some id) = record { no_out = λ e. cc; no_sink = λ e. cc }
@@ -148,8 +152,9 @@ HasUnread Is r IsOne =
 
 -- a call that shows a run comes to its outcome, or to a first part, up to a block that could not be read
 module _ (Is : UnreadBlock → Want → Type 0) (IsOne : Outcome → Type 0) (old new : Option Text) (before after : CallAccount) where
+  -- where the run shows a text and has no other value
   pub puts_come : (r : TextRun (Unit {0})) → IsOne (showing (shown_by whole_answer r)) → HasUnread Is r IsOne → (result : Result (Unit {0}) Stop)
-      → PutsText Is r old new result → StopCounts before after result → Shows IsOne old new before after (call_answer result)
+      → PutsText Is r old new result → StopCounts before after result → ShowsOutcome IsOne old new before after (call_answer result)
   puts_come r one unread (Ok u) puts counts = ended whole_answer fine_whole r IsOne one old new before after puts.done puts.adds (Ok tt) puts.follows counts
   puts_come r one unread (Err (Tree (tree.Lost a))) puts counts = ended whole_answer fine_whole r IsOne one old new before after puts.done puts.adds
       (Err (fault.Lost a)) puts.follows counts
@@ -167,7 +172,7 @@ module _ (Is : UnreadBlock → Want → Type 0) (IsOne : Outcome → Type 0) (ol
 
   -- the same where a tree was asked for
   pub asked_come : (r : TextRun (Option ℕ)) → IsOne (showing (shown_by asked_answer r)) → HasUnread Is r IsOne → (result : Result (Unit {0}) Stop)
-      → PutsAsked Is r old new result → StopCounts before after result → Shows IsOne old new before after (call_answer result)
+      → PutsAsked Is r old new result → StopCounts before after result → ShowsOutcome IsOne old new before after (call_answer result)
   asked_come r one unread (Ok u) puts counts = ended asked_answer fine_asked r IsOne one old new before after puts.done puts.adds (Ok None) puts.follows counts
   asked_come r one unread (Err (NoTree n)) puts counts = ended asked_answer fine_asked r IsOne one old new before after puts.done puts.adds
       (Ok (Some n)) puts.follows counts

@@ -17,10 +17,12 @@ pub record AreRead (words texts : List (List ℕ)) (number : ℕ) : Type 0 where
 abbrev pub AreReadOf : Option (List (List ℕ)) → List (List ℕ) → ℕ → Type 0
 AreReadOf told texts number = IfSome told (λ words. AreRead words texts number)
 
+-- before the first word none was read
 pub none_read : (told : Option (List (List ℕ))) → AreReadOf told [] 0
 none_read None = tt
 none_read (Some words) = record { many = refl; within = omega arith; each = λ k lt. absurd (omega (arith, lt)) }
 
+-- one word more was read
 pub one_read : (told : Option (List (List ℕ))) (texts : List (List ℕ)) (number : ℕ) (bytes text : List ℕ) → AreReadOf told texts number
     → IfSome told (λ words. slice_get words number ≡ Some bytes) → IsTextOf bytes text → AreReadOf told (texts ++ text ∷ []) (number + 1)
 one_read None texts number bytes text read is its = tt
@@ -37,6 +39,7 @@ one_read (Some words) texts number bytes text read is its = record {
     last = subst (λ b. IsTextOf b (get_or (texts ++ text ∷ []) number [])) (sym (get_or_from_slice_get words number bytes [] is))
         (subst (IsTextOf bytes) (sym (get_or_push texts text [] number read.many)) its)
 
+-- where there is no further word all of them were read
 pub all_read : (told : Option (List (List ℕ))) (texts : List (List ℕ)) (number : ℕ) → AreReadOf told texts number
     → IfSome told (λ words. slice_get words number ≡ None) → AreTexts told texts
 all_read None texts number read none = tt

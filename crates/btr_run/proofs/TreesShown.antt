@@ -10,7 +10,7 @@ use Rattle.btr_walk.proofs.Fetched.{cause_since}
 use Rattle.btr_prog.specs.Answers.{Names}
 use Rattle.btr_prog.specs.Calls.{Any, First}
 use Rattle.btr_prog.specs.Prog.{wants_of}
-use Rattle.btr_rack.specs.Rack.{Account, Seen, NoneFailed, OnlyReads, Rose, Steady}
+use Rattle.btr_rack.specs.Rack.{Account, Seen, NoneFailed, OnlyReads, Steady}
 use Rattle.btr_rack.specs.Out.{Adds, CallAccount}
 use Rattle.btr_rack.specs.declared.error.SinkError.TheVariants as sink
 use Rattle.btr_rack.proofs.Reading.{reads_more}
@@ -32,20 +32,18 @@ use Rattle.btr_run.specs.Answers.{error_line}
 use Rattle.btr_run.specs.Behind.{AnyFault, IfSteady, IsBehind, IsFault, IsLayoutOf, HasTreeCause}
 use Rattle.btr_run.specs.Faults.{open_answer, tree_answer}
 use Rattle.btr_run.specs.Filesystem.{Filesystem, OpensFilesystem, IsBySupers, IsRefusal, MayMend, filesystem_of}
-use Rattle.btr_run.specs.Outcomes.{Outcome, IsNoFault, IsPut, Shown, Shows, OrBare, OrMemory, refused, showing}
+use Rattle.btr_run.specs.Outcomes.{Outcome, IsNoFault, IsPut, Shown, ShowsOutcome, OrBare, OrMemory, refused, showing}
 use Rattle.btr_run.specs.Queries.Trees.{BreaksOff, IsTreesOutcome, asked_answer, call_answer, shown_by, whole_answer}
 use Rattle.btr_run.specs.declared.answer.Answer.{Answer}
 use Rattle.btr_run.specs.declared.answer.Answer.TheVariants.{Done, Usage, NoSuper, SumKind, Foreign, Twin, Unsupported, Geometry, LogPending, BadArray, Limit}
 use Rattle.btr_run.specs.declared.answer.Answer.TheVariants.{NoTree, ImageFault, Memory, OutFault}
 use Rattle.btr_run.proofs.Coming.{shows_bare}
-use Rattle.btr_run.proofs.Coming.{when_told}
+use Rattle.btr_read.proofs.Fetched.{map_some}
 use Rattle.btr_run.proofs.Faulting.{tree_in, tree_back}
 use Rattle.btr_run.proofs.Refusals.{open_line, open_no_fault, open_no_usage}
 use Rattle.btr_run.proofs.Shows.{HasUnread, asked_come, puts_come}
 use Rattle.btr_run.proofs.Wanted.{names_addr}
-
-steady_not_rose : (before now : ℕ) → Steady before now → Rose before now → ⊥
-steady_not_rose before now steady rose = omega (arith, steady.0, steady.1, rose.0, rose.1)
+use Rattle.btr_read.proofs.Compared.{steady_not_rose}
 
 -- where no read failed no block is unread
 pub none_unread : (layout : Layout) (old new : Seen) → Steady old.account.faults new.account.faults → (u : UnreadBlock) (ws : List Want)
@@ -60,6 +58,7 @@ told_where None S Q f = tt
 told_where (Some x) S Q f = f
 
 module _ (layout : Layout) (old new : Seen) where
+  -- the block of a want could not be read in these calls
   abbrev Is : UnreadBlock → Want → Type 0
   Is = unread_by layout old new
 
@@ -68,6 +67,7 @@ module _ (layout : Layout) (old new : Seen) where
   steadily P tells = told_where old.held (Steady old.account.faults new.account.faults) (λ images. P (fate images layout))
       (λ steady. tells.calls.content First (omega (arith, tells.calls.later, steady.0), steady.1))
 
+  -- the same of calls that read a block by its address alone
   pub steadily_block : (addr : ℕ) (P : Map → Type 0) → TellsBlock layout addr old new P → IfSteady old.held old.account new.account
       (λ images. P (fate images layout))
   steadily_block addr P tells = told_where old.held (Steady old.account.faults new.account.faults) (λ images. P (fate images layout))
@@ -82,6 +82,7 @@ module _ (layout : Layout) (old new : Seen) where
       of (Some images) is = λ agreed. subst (λ (o : Option Images). IfSome o (λ i. P (fate i layout))) is
           (tells.calls.content Any (subst (λ (o : Option Images). IfSome o (λ i. Agreed i layout)) (sym is) agreed))
 
+  -- the same of calls that read a block by its address alone, where its copies agree
   pub told_block : (addr : ℕ) (P : Map → Type 0) → TellsBlock layout addr old new P → IfSome old.held
       (λ images. Agree images layout (Block addr) → P (fate images layout))
   told_block addr P tells = of old.held refl
@@ -96,6 +97,7 @@ module _ (layout : Layout) (old new : Seen) where
   breaks_off r u upto rest place named =
       record { unread = u; before = upto; behind = rest; place = place; wanted = names_addr layout old new u (wants_of upto) named; is = refl }
 
+  -- where no read failed, no run is broken off at a block
   none_off : {A : Type 0} (IsOne : Outcome → Type 0) (r : TextRun A) → Steady old.account.faults new.account.faults → HasUnread Is r IsOne
   none_off IsOne r steady u upto rest place named = absurd (none_unread layout old new steady u (wants_of upto) named)
 
@@ -104,69 +106,76 @@ module _ (layout : Layout) (old new : Seen) where
     pub run_comes : (run : Map → TextRun (Unit {0}))
         → IfSteady old.held old.account new.account (λ images. PutsText Is (run (fate images layout)) text text' result)
         → IfSteady old.held old.account new.account
-        (λ images. Shows (λ outcome. outcome ≡ showing (shown_by whole_answer (run (fate images layout)))) text text' before after (call_answer result))
+        (λ images. ShowsOutcome (λ outcome. outcome ≡ showing (shown_by whole_answer (run (fate images layout)))) text text' before after (call_answer result))
     run_comes run =
-        when_told old.held _ _ (λ images puts steady.
+        map_some old.held _ _ (λ images puts steady.
         let IsOne : Outcome → Type 0 = λ outcome. outcome ≡ showing (shown_by whole_answer (run (fate images layout))) in
         puts_come Is IsOne text text' before after (run (fate images layout)) refl (none_off IsOne (run (fate images layout)) steady) result
         (puts steady) counts)
 
+    -- the same where a tree is asked for
     pub tree_comes : (run : Map → TextRun (Option ℕ))
         → IfSteady old.held old.account new.account (λ images. PutsAsked Is (run (fate images layout)) text text' result)
         → IfSteady old.held old.account new.account
-        (λ images. Shows (λ outcome. outcome ≡ showing (shown_by asked_answer (run (fate images layout)))) text text' before after (call_answer result))
+        (λ images. ShowsOutcome (λ outcome. outcome ≡ showing (shown_by asked_answer (run (fate images layout)))) text text' before after (call_answer result))
     tree_comes run =
-        when_told old.held _ _ (λ images puts steady.
+        map_some old.held _ _ (λ images puts steady.
         let IsOne : Outcome → Type 0 = λ outcome. outcome ≡ showing (shown_by asked_answer (run (fate images layout))) in
         asked_come Is IsOne text text' before after (run (fate images layout)) refl (none_off IsOne (run (fate images layout)) steady) result
         (puts steady) counts)
 
     -- what it comes to where the images agree in what it reads
     module _ (Agrees : Images → Type 0) where
+      -- a call that shows the text of a run comes to it, or to it up to a block that could not be read
       pub run_agreed : (run : Map → TextRun (Unit {0})) → IfSome old.held (λ images. Agrees images → PutsText Is (run (fate images layout)) text text' result)
-          → IfSome old.held (λ images. Agrees images → Shows
+          → IfSome old.held (λ images. Agrees images → ShowsOutcome
           (λ outcome. (outcome ≡ showing (shown_by whole_answer (run (fate images layout))))
           ⊎ BreaksOff (run (fate images layout)) outcome) text text' before after (call_answer result))
       run_agreed run =
-          when_told old.held _ _ (λ images puts agreed. let r = run (fate images layout) in
+          map_some old.held _ _ (λ images puts agreed. let r = run (fate images layout) in
           puts_come Is (λ outcome. (outcome ≡ showing (shown_by whole_answer r)) ⊎ BreaksOff r outcome) text text' before after r (inl refl)
           (λ u upto rest place named. inr (breaks_off r u upto rest place named)) result (puts agreed) counts)
 
+      -- so does one that shows a tree that is asked for
       pub tree_agreed : (run : Map → TextRun (Option ℕ)) → IfSome old.held (λ images. Agrees images → PutsAsked Is (run (fate images layout)) text text' result)
-          → IfSome old.held (λ images. Agrees images → Shows
+          → IfSome old.held (λ images. Agrees images → ShowsOutcome
           (λ outcome. (outcome ≡ showing (shown_by asked_answer (run (fate images layout))))
           ⊎ BreaksOff (run (fate images layout)) outcome) text text' before after (call_answer result))
       tree_agreed run =
-          when_told old.held _ _ (λ images puts agreed. let r = run (fate images layout) in
+          map_some old.held _ _ (λ images puts agreed. let r = run (fate images layout) in
           asked_come Is (λ outcome. (outcome ≡ showing (shown_by asked_answer r)) ⊎ BreaksOff r outcome) text text' before after r (inl refl)
           (λ u upto rest place named. inr (breaks_off r u upto rest place named)) result (puts agreed) counts)
 
 -- the filesystem isn't opened
 module _ (answer result : Answer) (is : result ≡ answer) (refusal : IsRefusal answer) where
+  -- the refusal is no fault of the output or of the sink
   no_fault : IsNoFault answer
   no_fault = subst IsNoFault (sym refusal.is) (open_no_fault refusal.refusal)
 
+  -- where no call failed, the answer is what the command comes to over the images, or memory was wanted
   pub unopened_effect : (outcome_in : Images → Result Filesystem Answer → Outcome)
       (bare : (images : Images) (a : Answer) → outcome_in images (Err a) ≡ refused a)
       (old new : Account) (held : Option Images) (text : Option Text) (account : CallAccount)
       → IfSteady held old new (λ images. OpensFilesystem images (Err answer))
-      → IfSteady held old new (λ images. Shows (OrMemory
+      → IfSteady held old new (λ images. ShowsOutcome (OrMemory
       (λ outcome. Some (outcome_in images (filesystem_of images)) ≡ Some outcome)) text text account account result)
   unopened_effect outcome_in bare old new held text account =
-      when_told held (λ images. Steady old.faults new.faults → OpensFilesystem images (Err answer))
-      (λ images. Steady old.faults new.faults → Shows (OrMemory
+      map_some held (λ images. Steady old.faults new.faults → OpensFilesystem images (Err answer))
+      (λ images. Steady old.faults new.faults → ShowsOutcome (OrMemory
       (λ outcome. Some (outcome_in images (filesystem_of images)) ≡ Some outcome)) text text account account result)
-      (λ images opens steady. subst (λ a. Shows (OrMemory
+      (λ images opens steady. subst (λ a. ShowsOutcome (OrMemory
       (λ outcome. Some (outcome_in images (filesystem_of images)) ≡ Some outcome)) text text account account a) (sym is)
       (shows_bare (OrMemory (λ outcome. Some (outcome_in images (filesystem_of images)) ≡ Some outcome)) text account answer
       (⊎_elim (λ none. inl (ap (λ f. Some (outcome_in images f)) none ∙ ap (λ o. Some o) (bare images answer))) (λ want. inr (ap refused want))
       (opens steady)) no_fault))
 
-  pub unopened_told : (IsOne : Outcome → Type 0) (text : Option Text) (account : CallAccount) → Shows (OrBare IsOne) text text account account result
+  -- whatever failed, the answer is a refusal before anything else
+  pub unopened_told : (IsOne : Outcome → Type 0) (text : Option Text) (account : CallAccount) → ShowsOutcome (OrBare IsOne) text text account account result
   unopened_told IsOne text account =
-      subst (λ a. Shows (OrBare IsOne) text text account account a) (sym is)
+      subst (λ a. ShowsOutcome (OrBare IsOne) text text account account a) (sym is)
       (shows_bare (OrBare IsOne) text account answer (inr (refl, λ e. open_line refusal.refusal (ap error_line (sym refusal.is) ∙ e))) no_fault)
 
+  -- what lies behind the refusal lies behind the command's answer
   pub unopened_behind : (IsTold : TreeFault → Type 0) (old new : Seen) → OnlyReads old new → ((slot : ℕ) → answer ≡ ImageFault slot → SuperUnread old new slot)
       → HasTreeCause old new answer
       → NoneFailed old.account new.account ⊎ IsFault answer ⊎ MayMend answer → ((n : ℕ) → answer ≢ Limit images_limit n)
@@ -187,31 +196,32 @@ tree_no_fault fault = record { no_out = λ e. cc; no_sink = λ e. cc }
 
 module _ (text text' : Option Text) (before after : CallAccount) (answer : Answer) (result : Result (Unit {0}) Stop) (is : answer ≡ call_answer result)
     (counts : StopCounts before after result) where
-  pub shown_told : Grows text text' → Shows (OrBare IsTreesOutcome) text text' before after answer
-  shown_told grows = subst (λ a. Shows (OrBare IsTreesOutcome) text text' before after a) (sym is) (of result counts)
+  -- whatever failed, a text was shown, to its end or up to a fault of a tree, or there is no such tree; or a first part of it
+  pub shown_told : Grows text text' → ShowsOutcome (OrBare IsTreesOutcome) text text' before after answer
+  shown_told grows = subst (λ a. ShowsOutcome (OrBare IsTreesOutcome) text text' before after a) (sym is) (of result counts)
     where
       some : (n : ℕ) × Adds text text' (take n grows.more)
       some = (length grows.more, subst (Adds text text') (sym (take_all (length grows.more) grows.more (omega arith))) grows.adds)
 
-      calm : IsNoFault (Done 0)
-      calm = record { no_out = λ e. cc; no_sink = λ e. cc }
+      no_fault : IsNoFault (Done 0)
+      no_fault = record { no_out = λ e. cc; no_sink = λ e. cc }
 
       -- an answer is due behind the text that was put
       so : (a result : Answer) → IsNoFault a → (a ≡ Done 0) ⊎ ((id : ℕ) × (a ≡ NoTree id)) ⊎ ((fault : TreeFault) × (a ≡ tree_answer fault))
-          → IsPut text text' before after grows.more a result → Shows (OrBare IsTreesOutcome) text text' before after result
+          → IsPut text text' before after grows.more a result → ShowsOutcome (OrBare IsTreesOutcome) text text' before after result
       so a result no_fault ends put =
           let shown : Shown = record { answer = a; text = grows.more } in
           record { shown = shown; is_one = inl (record { shown = shown; is = refl; ends = ends }); no_fault = no_fault; put = put }
 
-      of : (r : Result (Unit {0}) Stop) → StopCounts before after r → Shows (OrBare IsTreesOutcome) text text' before after (call_answer r)
-      of (Ok u) counts = so (Done 0) (Done 0) calm (inl refl) (record { put = Ok tt; puts = grows.adds; counts = counts; due = refl })
+      of : (r : Result (Unit {0}) Stop) → StopCounts before after r → ShowsOutcome (OrBare IsTreesOutcome) text text' before after (call_answer r)
+      of (Ok u) counts = so (Done 0) (Done 0) no_fault (inl refl) (record { put = Ok tt; puts = grows.adds; counts = counts; due = refl })
       of (Err (stop.Tree f)) counts =
           so (tree_answer f) (tree_answer f) (tree_no_fault f) (inr (inr (f, refl))) (record { put = Ok tt; puts = grows.adds; counts = counts; due = refl })
       of (Err (stop.NoTree id)) counts =
           so (NoTree id) (NoTree id) (record { no_out = λ e. cc; no_sink = λ e. cc }) (inr (inl (id, refl)))
           (record { put = Ok tt; puts = grows.adds; counts = counts; due = refl })
-      of (Err stop.Out) counts = so (Done 0) OutFault calm (inl refl) (record { put = Err sink.Failed; puts = some; counts = counts; due = refl })
-      of (Err stop.Memory) counts = so (Done 0) Memory calm (inl refl) (record { put = Err sink.Memory; puts = some; counts = counts; due = refl })
+      of (Err stop.Out) counts = so (Done 0) OutFault no_fault (inl refl) (record { put = Err sink.Failed; puts = some; counts = counts; due = refl })
+      of (Err stop.Memory) counts = so (Done 0) Memory no_fault (inl refl) (record { put = Err sink.Memory; puts = some; counts = counts; due = refl })
       of (Err other) counts = absurd counts
 
 -- the answer is none of those that the words or the superblocks alone decide
@@ -243,6 +253,7 @@ mends_of answer none_of refusal by e = of refusal by (subst NoneOf e none_of)
 
 module _ (old mid new : Seen) (first : OnlyReads old mid) (second : OnlyReads mid new) (before after : CallAccount) (answer : Answer)
     (result : Result (Unit {0}) Stop) (is : answer ≡ call_answer result) (counts : StopCounts before after result) where
+  -- the call doesn't answer that an image failed
   no_image : (slot : ℕ) → call_answer result ≢ ImageFault slot
   no_image slot = of result counts
     where
@@ -252,6 +263,7 @@ module _ (old mid new : Seen) (first : OnlyReads old mid) (second : OnlyReads mi
       of (Err stop.Sink) counts e = absurd counts
       of r counts e = cc
 
+  -- the call answers nothing that the words or the superblocks alone decide
   none_of : NoneOf (call_answer result)
   none_of = of result
     where
@@ -259,6 +271,7 @@ module _ (old mid new : Seen) (first : OnlyReads old mid) (second : OnlyReads mi
       of (Err (stop.Tree (tree.Lost a))) = tt
       of r = tt
 
+  -- a fault of a tree that the call answers has its cause by the layout
   tree_cause : (layout : Layout) → IsLayoutOf old new layout → DumpStopCause layout mid new result → HasTreeCause old new (call_answer result)
   tree_cause layout own cause fault is = (layout, own, of result cause (ap tree_in is ∙ tree_back fault))
     where
@@ -268,6 +281,7 @@ module _ (old mid new : Seen) (first : OnlyReads old mid) (second : OnlyReads mi
           (cause_since new layout layout f refl first cause)
       of (Err other) cause e = absurd (cc e)
 
+  -- the images were only read, and a fault of a tree that is answered has its cause
   pub shown_behind : (layout : Layout) → IsLayoutOf old new layout → DumpStopCause layout mid new result → IsBehind MayMend AnyFault old new answer
   shown_behind layout own cause = subst (IsBehind MayMend AnyFault old new) (sym is) (record {
     reads = reads_more first second;

@@ -39,9 +39,11 @@ begins sentence words here led =
           ∙ more.2),
     )
 
+-- where words lead nowhere nothing is read
 nowhere : (o : Option Stage) (read : Read) → o ≡ None → option_and_then (λ (t : Stage). read_by t.next t.read) o ≡ Some read → ⊥
 nowhere o read none some = cc (sym (ap (option_and_then (λ (t : Stage). read_by t.next t.read)) none) ∙ some)
 
+-- where a word doesn't lead on, those before it, and no more, begin a sentence of this form
 pub short_at : (sentence : Sentence) (words : Words) (i : ℕ) (d : List ℕ) (here : Stage) → i < length words
     → reached (start sentence) 0 (take i words) ≡ Some here
     → step here i (get_or words i d) ≡ None → IsShort sentence words i
@@ -60,6 +62,7 @@ short_at sentence words i d here lt led stuck = record {
     whole : take (length words) words ++ [] ≡ words
     whole = append-nil (take (length words) words) ∙ take_all (length words) words (omega arith)
 
+-- words that end before the sentence does, all of them, begin one
 pub short_end : (sentence : Sentence) (words : Words) (here : Stage) → reached (start sentence) 0 words ≡ Some here → read_by here.next here.read ≡ None
     → IsShort sentence words (length words)
 short_end sentence words here led none = record {
@@ -78,12 +81,15 @@ pub record IsNoneOf (words : Words) (longest : ℕ) (sentence : Sentence) : Type
   none : (read : Read) → IsRead sentence words read → ⊥
   over : (n : ℕ) → longest < n → n ≤ length words → (rest : Words) (read : Read) → IsRead sentence (take n words ++ rest) read → ⊥
 
+-- where no more words than some number begin a sentence of a form, no more than a larger number do
 pub none_longer : (words : Words) (a b : ℕ) (sentence : Sentence) → a ≤ b → IsNoneOf words a sentence → IsNoneOf words b sentence
 none_longer words a b sentence le none = record { none = none.none; over = λ n below. none.over n (omega (arith, le, below)) }
 
+-- words that are short of a form are none of it, and no more of them begin one
 pub short_none : (words : Words) (at : ℕ) (sentence : Sentence) → IsShort sentence words at → IsNoneOf words at sentence
 short_none words at sentence short = record { none = short.none; over = short.longest }
 
+-- the words up to where they are short of a form begin a sentence
 pub short_begins : (words : Words) (at : ℕ) (sentence : Sentence) → IsShort sentence words at → Begins (take at words)
 short_begins words at sentence short = record {
   plan = plan_for sentence short.begins.1;
@@ -97,6 +103,7 @@ pub record AreTried (words : Words) (longest number : ℕ) : Type 0 where
   begin : Begins (take longest words)
   each : (k : ℕ) → k < number → IsNoneOf words longest (form_at k)
 
+-- before any form was tried, the longest beginning is of no word
 pub none_tried : (words : Words) → AreTried words 0 0
 none_tried words = record {
   within = omega arith;
@@ -122,6 +129,7 @@ lt_le Less e = refl
 lt_le Equal e = absurd (cc e)
 lt_le Greater e = absurd (cc e)
 
+-- the maximum of two numbers is one of them, and neither is above it
 larger_is : (a b : ℕ) → IsLarger a b (ord_max nat_cmp a b)
 larger_is a b = of (is_lt (nat_cmp b a)) refl
   where

@@ -7,7 +7,7 @@ use Rattle.btr_restore.specs.Running.{Outside}
 use Rattle.btr_run.specs.Answers.{error_line}
 use Rattle.btr_run.specs.Commands.{command_outcome, CallsSink, MayCome, MayWant}
 use Rattle.btr_run.specs.Images.{taken, most_images}
-use Rattle.btr_run.specs.Outcomes.{Outcome, refused, Stands, OrBare, OrMemory, HasFirstPart}
+use Rattle.btr_run.specs.Outcomes.{Outcome, refused, DidAndTold, OrBare, OrMemory, HasFirstPart}
 use Rattle.btr_run.specs.Outcomes.{IsPrinted}
 use Rattle.btr_run.specs.SelfTested.{AsksToTry, IsTrialOutcome}
 use Rattle.btr_run.specs.Words.{Words, IsSentence, IsUsageAt, images_of}
@@ -40,7 +40,7 @@ pub record HasEffect (words : Words) (shelf : Shelf) (x y : Outside)
   pub outcome : Outcome
   pub is : IsOutcome words shelf outcome
   pub answered : answer ≡ outcome.answer
-  pub stands : Stands x y outcome.steps (error_line outcome.answer)
+  pub stands : DidAndTold x y outcome.steps (error_line outcome.answer)
 
 -- a first part of what the words come to over the shelf was done and put, and of the line of its
 -- answer, or for want of memory, or for a fault of the sink

@@ -15,7 +15,7 @@ use Rattle.btr_run.specs.Answers.{error_line}
 use Rattle.btr_run.specs.Behind.{IsFault}
 use Rattle.btr_run.specs.Faults.{open_answer}
 use Rattle.btr_run.specs.Filesystem.{fault_answer}
-use Rattle.btr_run.specs.Outcomes.{Stands}
+use Rattle.btr_run.specs.Outcomes.{DidAndTold}
 use Rattle.btr_run.specs.Promise.{RestoresFrom}
 use Rattle.btr_run.specs.Words.{Words}
 use Rattle.btr_run.specs.declared.answer.Answer.{Answer}
@@ -40,7 +40,7 @@ pub record KeepsTo (P : List Step → journey.Answer → Type 0) (x y : Outside)
   pub done : List Step
   pub answer : journey.Answer
   pub allowed : P done answer
-  pub stands : Stands x y done line
+  pub stands : DidAndTold x y done line
   pub answered : AnswersAs answer result
 
 -- Behind such steps the line of the answer that was due stands, and that is the answer; or the output refused the line,

@@ -66,7 +66,7 @@ pub record IsNoFault (answer : Answer) : Type 0 where
 
 -- Something of some kind was shown: its text was put, or a first part of it where the output refused it, and this is
 -- the answer that is due. A fault of the output is none of them.
-pub record Shows (IsOne : Outcome → Type 0) (old new : Option (List ℕ)) (before after : CallAccount) (result : Answer) : Type 0 where
+pub record ShowsOutcome (IsOne : Outcome → Type 0) (old new : Option (List ℕ)) (before after : CallAccount) (result : Answer) : Type 0 where
   pub shown : Shown
   pub is_one : IsOne (showing shown)
   pub no_fault : IsNoFault shown.answer
@@ -88,7 +88,7 @@ pub record IsFirstPart (steps done : List Step) : Type 0 where
   pub stands : StandsOf left behind
 
 -- some steps were done, and then a line was put
-pub record Stands (x y : Outside) (done : List Step) (line : List ℕ) : Type 0 where
+pub record DidAndTold (x y : Outside) (done : List Step) (line : List ℕ) : Type 0 where
   pub sink : y.sink ≡ fold sink_after x.sink done
   pub text : Adds x.text y.text (text_of done ++ line)
 
@@ -96,7 +96,7 @@ pub record Stands (x y : Outside) (done : List Step) (line : List ℕ) : Type 0 
 pub record StandsPartly (x y : Outside) (outcome : Outcome) (line : List ℕ) : Type 0 where
   pub done : List Step
   pub first : IsFirstPart outcome.steps done
-  pub stands : Stands x y done line
+  pub stands : DidAndTold x y done line
 
 -- a call of an output or of a sink failed, which was not sure
 abbrev pub CallFailed : CallAccount → CallAccount → Type 0
@@ -116,7 +116,8 @@ pub data How : Type 0 where
 -- what was done by then, and the answer that is due; memory may be wanted where May says
 -- so, and the sink may fail behind the output
 abbrev pub HasEnded : Type 0 → Outside → Outside → Outcome → Answer → How → Type 0
-HasEnded May x y outcome result Whole = (result ≡ outcome.answer) × (y.sink_calls ≡ x.sink_calls) × (y.out_calls ≡ x.out_calls) × Stands x y outcome.steps []
+HasEnded May x y outcome result Whole =
+    (result ≡ outcome.answer) × (y.sink_calls ≡ x.sink_calls) × (y.out_calls ≡ x.out_calls) × DidAndTold x y outcome.steps []
 HasEnded May x y outcome result SinkFailed = (result ≡ SinkFault) × OneFailed x.sink_calls y.sink_calls
     × ((y.out_calls ≡ x.out_calls) ⊎ OneFailed x.out_calls y.out_calls) × StandsPartly x y outcome []
 HasEnded May x y outcome result OutFailed = (result ≡ OutFault) × OneFailed x.out_calls y.out_calls × (y.sink_calls ≡ x.sink_calls)
@@ -147,7 +148,7 @@ pub record HasFirstPart (x y : Outside) (outcome : Outcome) : Type 0 where
 -- all was done and put; or the sink failed, or the output, or memory was wanted, as it may be
 abbrev pub IsPrinted : Type 0 → Outside → Outside → Outcome → Answer → Type 0
 IsPrinted May x y outcome result =
-    ((result ≡ outcome.answer) × Stands x y outcome.steps (error_line outcome.answer))
+    ((result ≡ outcome.answer) × DidAndTold x y outcome.steps (error_line outcome.answer))
     ⊎ ((result ≡ SinkFault) × CallFailed x.sink_calls y.sink_calls × StandsPartly x y outcome (error_line SinkFault))
     ⊎ ((result ≡ OutFault) × CallFailed x.out_calls y.out_calls × HasFirstPart x y outcome)
     ⊎ ((result ≡ Memory) × May × HasFirstPart x y outcome)

@@ -32,8 +32,8 @@ pub record HasEnded {R T O : Type 0} (told : Option Words) (volume : Option Imag
   pub how : (AreTexts told run.words × IsPromised volume run) ⊎ IsWordless run
 
 -- the program ended with a status, for some words and some answer of their run
-abbrev pub EndsWith : {R T O : Type 0} → Option Words → Option Images → Eyes R T O → R → T → O → R → T → O → ℕ → Type 0
-EndsWith {R} {T} {O} told volume eyes rack tree out rack' tree' out' status =
+abbrev pub ExitsWith : {R T O : Type 0} → Option Words → Option Images → Eyes R T O → R → T → O → R → T → O → ℕ → Type 0
+ExitsWith {R} {T} {O} told volume eyes rack tree out rack' tree' out' status =
     (words : Words) × (answer : Answer)
     × HasEnded told volume
     (record {

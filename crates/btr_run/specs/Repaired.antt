@@ -58,19 +58,19 @@ KeepsBlocks images left =
 -- whatever failed: the writes that mend the filesystem up to one of them, which stands perhaps in
 -- part; all of them behind a scrub that was finished; and, wherever it stopped, each checked block
 -- that can be spared can be had. Any answer but those of `MayWrite` leaves each byte.
-pub record LeavesImages (calm : Type 0) (images left : Images) (answer : Answer) : Type 0 where
-  pub stopped : calm ⊎ AreAgreed images → IsStopped (mending_writes images) images left
-  pub finished : (lost : ℕ) → answer ≡ found lost → calm ⊎ AreAgreed images
+pub record LeavesImages (unfailing : Type 0) (images left : Images) (answer : Answer) : Type 0 where
+  pub stopped : unfailing ⊎ AreAgreed images → IsStopped (mending_writes images) images left
+  pub finished : (lost : ℕ) → answer ≡ found lost → unfailing ⊎ AreAgreed images
       → left ≡ scrubbed_images images
   pub unchanged : (left ≡ images) ⊎ MayWrite answer
-  pub safe : calm ⊎ AreAgreed images → (left ≡ images) ⊎ KeepsBlocks images left
+  pub safe : unfailing ⊎ AreAgreed images → (left ≡ images) ⊎ KeepsBlocks images left
 
 -- the open images were opened to be written, and so they stand, where the rack tells it
 abbrev pub AreLeft : Type 0 → Option Shelf → List Slot → Option Images → Answer → Type 0
-AreLeft calm shelf slots held answer =
+AreLeft unfailing shelf slots held answer =
     All (λ (s : Slot). s.write ≡ true) slots
     × IfSome shelf (λ at. IfSome held (λ left. (images : Images)
-    × (taken (map (λ s. s.name) slots) at ≡ Some images) × LeavesImages calm images left answer))
+    × (taken (map (λ s. s.name) slots) at ≡ Some images) × LeavesImages unfailing images left answer))
 
 -- what waits for a sync waited before
 abbrev pub WaitedBefore : Seen → Seen → Type 0

@@ -5,7 +5,7 @@ use Rattle.btr_rack.specs.Rack.{Seen}
 use Rattle.btr_run.specs.Agreeing.{ComesAgreed}
 use Rattle.btr_run.specs.Behind.{IfSteady}
 use Rattle.btr_run.specs.Commands.{IsBehindCommand, MayCome, command_outcome}
-use Rattle.btr_run.specs.Outcomes.{OrBare, OrMemory, Shows}
+use Rattle.btr_run.specs.Outcomes.{OrBare, OrMemory, ShowsOutcome}
 use Rattle.btr_run.specs.Unopened.{AreAgreed}
 use Rattle.btr_run.specs.declared.answer.Answer.{Answer}
 use Rattle.btr_run.specs.declared.plan.Command.{Command}
@@ -14,7 +14,7 @@ use Rattle.btr_run.specs.declared.plan.Command.{Command}
 -- command may come to then, whatever failed; at any rate it is of its kind, and has its cause. The words say nothing more of such a command.
 pub record ShowsCommand (command : Command) (old new : Seen) (text text' : Option (List ℕ)) (before after : CallAccount) (answer : Answer) : Type 0 where
   pub effect : IfSteady old.held old.account new.account
-      (λ images. Shows (OrMemory (λ outcome. command_outcome command [] images ≡ Some outcome)) text text' before after answer)
-  pub agreed : IfSome old.held (λ images. AreAgreed images → Shows (ComesAgreed command [] images) text text' before after answer)
-  pub told : Shows (OrBare (MayCome command [])) text text' before after answer
+      (λ images. ShowsOutcome (OrMemory (λ outcome. command_outcome command [] images ≡ Some outcome)) text text' before after answer)
+  pub agreed : IfSome old.held (λ images. AreAgreed images → ShowsOutcome (ComesAgreed command [] images) text text' before after answer)
+  pub told : ShowsOutcome (OrBare (MayCome command [])) text text' before after answer
   pub cause : IsBehindCommand command old new answer

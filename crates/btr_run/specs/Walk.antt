@@ -8,7 +8,7 @@ use Rattle.btr_run.specs.Words.{Part, Word, Number, Destination, File, Volume, i
 use Rattle.btr_run.specs.declared.options.Options.{Options as Given}
 use Rattle.btr_run.specs.declared.place.Next.{Next}
 use Rattle.btr_run.specs.declared.place.Next.TheVariants as next
-use Rattle.btr_run.specs.declared.place.Progress.{Progress}
+use Rattle.btr_run.specs.declared.place.SentencePlace.{SentencePlace}
 use Rattle.btr_run.specs.declared.place.Read.{Read}
 
 -- a place in a sentence: the parts that are left, which word may come next, and what was read
@@ -22,7 +22,7 @@ abbrev pub stage : List Part → Next → Read → Stage
 stage left next read = record { left = left; next = next; read = read }
 
 -- the place in a sentence that a reader of words stands at
-abbrev pub stage_of : Progress → Stage
+abbrev pub stage_of : SentencePlace → Stage
 stage_of place = stage (map part_of place.left.now) place.next place.read
 
 -- behind some options

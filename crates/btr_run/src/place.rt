@@ -61,16 +61,16 @@ pub(crate) enum Next {
 
 /// A place in a sentence, behind some words.
 #[derive(Clone, Copy)]
-pub(crate) struct Progress {
+pub(crate) struct SentencePlace {
     /// The parts that are left.
     pub(crate) left: &'static [Part],
     pub(crate) next: Next,
     pub(crate) read: Read,
 }
 
-impl Progress {
+impl SentencePlace {
     /// The place behind one more word, the one of this number; `None` where the sentence has another word here.
-    pub(crate) fn behind(self, at: usize, word: &str) -> Option<Progress>
+    pub(crate) fn behind(self, at: usize, word: &str) -> Option<SentencePlace>
         requires { at + 1 < 2 ^ 64 }
         ensures { option_map stage_of result ≡ behind self.next (map part_of self.left.now) self.read at word.now }
     {
@@ -96,7 +96,7 @@ impl Progress {
 }
 
 // Behind the id of a subvolume.
-fn behind_id(place: Progress, word: &str) -> Option<Progress>
+fn behind_id(place: SentencePlace, word: &str) -> Option<SentencePlace>
     ensures { option_map stage_of result ≡ behind_id (map part_of place.left.now) place.read word.now }
 {
     let id = number(word)?;
@@ -111,7 +111,7 @@ fn behind_option(
     read: Read,
     at: usize,
     word: &str,
-) -> Option<Progress>
+) -> Option<SentencePlace>
     requires { map part_of left.now ≡ Destination ∷ map part_of rest.now }
     ensures { option_map stage_of result ≡ behind_option (map part_of rest.now) read at word.now }
 {
@@ -126,12 +126,12 @@ fn behind_option(
 }
 
 // Behind `-r`, which may stand there once.
-fn behind_flag(left: &'static [Part], read: Read) -> Option<Progress>
+fn behind_flag(left: &'static [Part], read: Read) -> Option<SentencePlace>
     ensures { option_map stage_of result ≡ behind_root (map part_of left.now) read }
 {
     match read.options.root {
         Some(_) => None,
-        None => Some(Progress {
+        None => Some(SentencePlace {
             left,
             next: Next::Id,
             read,
@@ -140,7 +140,7 @@ fn behind_flag(left: &'static [Part], read: Read) -> Option<Progress>
 }
 
 // Behind a word of the part that is left next, or of the first image.
-fn behind_part(left: &'static [Part], read: Read, at: usize, word: &str) -> Option<Progress>
+fn behind_part(left: &'static [Part], read: Read, at: usize, word: &str) -> Option<SentencePlace>
     requires { at + 1 < 2 ^ 64 }
     ensures { option_map stage_of result ≡ behind_part (map part_of left.now) read at word.now }
 {
@@ -167,12 +167,12 @@ fn behind_part(left: &'static [Part], read: Read, at: usize, word: &str) -> Opti
 }
 
 // Behind the number of directories of a volume, which stands last.
-fn behind_volume(left: &'static [Part], read: Read, word: &str) -> Option<Progress>
+fn behind_volume(left: &'static [Part], read: Read, word: &str) -> Option<SentencePlace>
     ensures { option_map stage_of result ≡ behind_volume (map part_of left.now) read word.now }
 {
     let number = number(word)?;
     if (1..=MOST_DIRECTORIES).contains(&number) {
-        Some(Progress {
+        Some(SentencePlace {
             left,
             next: Next::End,
             read: Read { number, ..read },
@@ -183,7 +183,7 @@ fn behind_volume(left: &'static [Part], read: Read, word: &str) -> Option<Progre
 }
 
 // Behind a word that has to be this one.
-fn behind_word(word: &str, this: &str, left: &'static [Part], read: Read) -> Option<Progress>
+fn behind_word(word: &str, this: &str, left: &'static [Part], read: Read) -> Option<SentencePlace>
     ensures { option_map stage_of result ≡ behind_word word.now this.now (map part_of left.now) read }
 {
     if word == this {
@@ -194,18 +194,18 @@ fn behind_word(word: &str, this: &str, left: &'static [Part], read: Read) -> Opt
 }
 
 // Behind a name.
-fn behind_name(word: &str, left: &'static [Part], next: Next, read: Read) -> Option<Progress>
+fn behind_name(word: &str, left: &'static [Part], next: Next, read: Read) -> Option<SentencePlace>
     ensures { option_map stage_of result ≡ behind_name word.now (map part_of left.now) next read }
 {
     if is_name(word) {
-        Some(Progress { left, next, read })
+        Some(SentencePlace { left, next, read })
     } else {
         None
     }
 }
 
 // Behind the name of a file.
-fn behind_file(word: &str, left: &'static [Part], read: Read) -> Option<Progress>
+fn behind_file(word: &str, left: &'static [Part], read: Read) -> Option<SentencePlace>
     ensures { option_map stage_of result ≡ behind_file word.now (map part_of left.now) read }
 {
     if is_file(word) {
@@ -216,10 +216,10 @@ fn behind_file(word: &str, left: &'static [Part], read: Read) -> Option<Progress
 }
 
 // Behind one part.
-fn behind_one(left: &'static [Part], read: Read) -> Progress
+fn behind_one(left: &'static [Part], read: Read) -> SentencePlace
     ensures { stage_of result ≡ stage (map part_of left.now) Next.Part read }
 {
-    Progress {
+    SentencePlace {
         left,
         next: Next::Part,
         read,
@@ -227,7 +227,7 @@ fn behind_one(left: &'static [Part], read: Read) -> Progress
 }
 
 // Behind some options.
-fn with_options(left: &'static [Part], read: Read, options: Options) -> Progress
+fn with_options(left: &'static [Part], read: Read, options: Options) -> SentencePlace
     ensures { stage_of result ≡ with_given (map part_of left.now) read options }
 {
     behind_one(left, Read { options, ..read })

@@ -7,7 +7,7 @@ ghost use Rattle.btr_run.specs.Words.{restore_of};
 
 use crate::options::Options;
 use crate::part::Part;
-use crate::place::{Next, Progress, Read};
+use crate::place::{Next, Read, SentencePlace};
 use crate::plan::Command;
 use crate::query::{DumpChoice, Query};
 use btr_files::RestorePlan;
@@ -135,7 +135,7 @@ impl Sentence {
         ensures whole { IfOk result (λ read. IsRead self (map string_bytes words.now) read) }
         ensures short { IfErr result (λ at. IsShort self (map string_bytes words.now) at) }
     {
-        let mut place = Progress {
+        let mut place = SentencePlace {
             left: self.parts(),
             next: Next::Part,
             read: self.nothing(),

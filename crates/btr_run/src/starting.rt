@@ -1,7 +1,7 @@
 // The program, over any command line and any outside.
 ghost use Rattle.std.specs.Prelude.{◌≡◌, []};
 ghost use Rattle.btr_rack.specs.Sink.{NotStarted};
-ghost use Rattle.btr_run.specs.Program.{EndsWith};
+ghost use Rattle.btr_run.specs.Program.{ExitsWith};
 ghost use Rattle.btr_run.specs.Run.{eyes};
 
 use crate::answer::Answer;
@@ -24,7 +24,7 @@ pub fn program<W: CommandLine, R: Rack, T: TreeSink, O: Out, M: Maker + Drop>(
 ) -> u8
     requires closed { (R.seen rack.old).slots ≡ [] }
     requires fresh { (T.sink tree.old).stage ≡ NotStarted }
-    ensures { EndsWith (W.told line.now) (M.volume maker) (eyes R.seen T.sink T.account T.waits O.text O.account)
+    ensures { ExitsWith (W.told line.now) (M.volume maker) (eyes R.seen T.sink T.account T.waits O.text O.account)
         rack.old tree.old out.old rack.new tree.new out.new result }
 {
     match words_of(alloc, line) {

@@ -1,6 +1,6 @@
 -- What the outcomes of the commands answer where all that they need is there.
 use Rattle.std.proofs.Common.{◌≡◌, ⊎_elim, ℕ, Bool, true, false, cond, List, [], ◌∷◌, get_or, length, map, Option, Some, None, Result, Ok, Err}
-use Rattle.std.proofs.Common.{refl, sym, ap, ◌∙◌, subst, arith}
+use Rattle.std.proofs.Common.{refl, sym, ap, ◌∙◌, subst}
 use Rattle.std.specs.Prelude.{slice_get, nat_lt, IsSome}
 use Rattle.std.specs.Option.{option_map}
 use Rattle.btr_check.specs.Before.{refusal}
@@ -18,7 +18,7 @@ use Rattle.btr_prog.specs.Stages.{Early, Late, renamed_run, run_unless_refused}
 use Rattle.btr_prog.proofs.Quieting.{quiet_ends}
 use Rattle.btr_prog.proofs.Runs.{after-err, after-ok, exec-bind}
 use Rattle.btr_prog.proofs.TwoParts.{exec-staged}
-use Rattle.btr_rack.specs.Rack.{Rose, Shelf, Steady}
+use Rattle.btr_rack.specs.Rack.{Shelf}
 use Rattle.btr_read.specs.Candidates.{Target}
 use Rattle.btr_read.specs.Fate.{Fault, chosen, fate, fate_of, is_plain, or_lost, passing, sought}
 use Rattle.btr_read.specs.Want.{addr_of}
@@ -75,9 +75,7 @@ use Rattle.btr_run.proofs.Rows.{row_opened}
 use Rattle.btr_run.proofs.SelfTests.{no_trial, some_trial}
 use Rattle.btr_run_laws.specs.Complete.{AreShown, CommandsComplete, HasNeeds, HasQueryNeeds, IsDone, RestoreCompletes, SelfTestCompletes}
 use Rattle.btr_run_laws.proofs.Serving.{served_ends}
-
-not_steady : (before now : ℕ) → Steady before now → Rose before now → ⊥
-not_steady before now steady rose = omega (arith, steady.0, steady.1, rose.0, rose.1)
+use Rattle.btr_read.proofs.Compared.{steady_not_rose}
 
 -- what stands is the outcome of the command of these words over these images
 pub its_outcome : (words : Words) (shelf : Shelf) (x y : Outside) (answer : Answer) (plan : Plan) (images : Images) → TakesImages plan.command
@@ -109,16 +107,18 @@ listed : {A : Type 0} (left_out : A → ℕ) (e : Result A Fault) (a : A) → e 
 listed left_out e a is = (left_out a, ap (listed_answer left_out) is)
 
 module _ (images : Images) (fs : Filesystem) (opened : filesystem_of images ≡ Ok fs) where
+  -- what becomes of each block of the filesystem
   abbrev B : Map
   B = fate images fs.layout
 
   -- what a command comes to, and that it is done
-  abbrev Comes : Command → Words → Type 0
-  Comes command words = (o : Outcome) × (command_outcome command words images ≡ Some o) × IsDone command images fs o.answer
+  abbrev Completes : Command → Words → Type 0
+  Completes command words = (o : Outcome) × (command_outcome command words images ≡ Some o) × IsDone command images fs o.answer
 
+  -- `super` shows the newest superblock of images that make a filesystem
   super_shown : (supers : Result (List Super) OpenFault) → supers_from 0 images ≡ supers → (found : Option Super)
       → ((all : List Super) → supers ≡ Ok all → newest all ≡ found) → start_with images supers ≡ start_of images
-      → (words : Words) → Comes super_command words
+      → (words : Words) → Completes super_command words
   super_shown (Err refusal) read found is start words =
       absurd (cc (sym opened ∙ ap (with_start images) (sym start)))
   super_shown (Ok all) read None is start words =
@@ -129,13 +129,16 @@ module _ (images : Images) (fs : Filesystem) (opened : filesystem_of images ≡ 
     (0, refl),
   )
 
+  -- the newest superblock, if they were all read
   abbrev newest_in : Result (List Super) OpenFault → Option Super
   newest_in (Ok all) = newest all
   newest_in (Err refusal) = None
 
+  -- the answer of a text whose run came to its end is that of its value
   shown_ends : {A : Type 0} (answer : A → Answer) (r : TextRun A) (a : A) → r.ending ≡ Ok a → (shown_by answer r).answer ≡ answer a
   shown_ends answer r a is = ap (ending_answer answer) is
 
+  -- trees that can be shown whole are shown to their end
   dumped : (choice : DumpChoice) → AreShown choice images fs → (skipped : ℕ) × ((trees_shown choice B fs.sup).answer ≡ Done skipped)
   dumped All needs = let e = served_ends B (all_trees fs.sup) needs in
       (0, shown_ends whole_answer (exec B (all_trees fs.sup)) e.0 e.1)
@@ -145,11 +148,13 @@ module _ (images : Images) (fs : Filesystem) (opened : filesystem_of images ≡ 
   dumped RootLines needs = let e = served_ends B (roots_shown fs.sup) needs in
       (0, shown_ends whole_answer (exec B (roots_shown fs.sup)) e.0 e.1)
 
+  -- a check that isn't refused comes to the list of all findings
   check_is : (read_data : Bool) → refusal (filesystem_by images fs) ≡ None
       → check_outcome read_data images ≡ showing (listing_shown (findings read_data (filesystem_by images fs)))
   check_is read_data none = ap (check_in read_data images) opened
       ∙ ap (λ r. unless_refused r (listing_shown (findings read_data (filesystem_by images fs)))) none
 
+  -- a scrub of which no device is missing, and whose blocks can be listed, comes to the line of its counts
   scrub_is : (write : Bool) → first_missing fs.layout ≡ None → (meeting images (filesystem_as fs)).ending ≡ Ok tt
       → scrub_outcome write images ≡ showing (tally_shown (counts write images (filesystem_as fs)))
   unfolding scrub_outcome
@@ -177,7 +182,8 @@ module _ (images : Images) (fs : Filesystem) (opened : filesystem_of images ≡ 
       let e = served_ends B p needs in
       listed skipped_in (exec B p).ending e.0 e.1
 
-  pub completes : (command : Command) (words : Words) → HasNeeds command words images fs → Comes command words
+  -- a command is done, if all that it needs of the filesystem is there
+  pub completes : (command : Command) (words : Words) → HasNeeds command words images fs → Completes command words
   completes super_command words needs =
       super_shown (supers_from 0 images) refl (newest_in (supers_from 0 images)) (λ all is. sym (ap newest_in is)) refl words
   completes (Ask query) words needs =
@@ -189,6 +195,7 @@ module _ (images : Images) (fs : Filesystem) (opened : filesystem_of images ≡ 
       (showing (tally_shown (counts write images (filesystem_as fs))), ap (λ o. Some o) (scrub_is write needs.0 needs.1), refl)
   completes (SelfTest number) words needs = absurd needs
 
+-- where the words have their effect over images that make a filesystem, and all that is needed is there, the command is done
 pub commands_complete : CommandsComplete
 commands_complete words shelf x y answer plan images fs effect asks opened needs =
     let c = completes images fs opened plan.command words needs in
@@ -197,11 +204,12 @@ commands_complete words shelf x y answer plan images fs effect asks opened needs
 
 -- ---- a self-test
 
+-- a self-test answers how many lines differ, where neither its output nor its sink failed and memory sufficed
 pub self_test_completes : SelfTestCompletes
-self_test_completes x y answer volume number outcome one printed calm steady enough =
+self_test_completes x y answer volume number outcome one printed unfailing steady enough =
     ⊎_elim (λ done. (differing (trial_of trial.0 number), done.0 ∙ ap (λ (o : Outcome). o.answer) trial.1))
-    (λ rest. ⊎_elim (λ sink. absurd (not_steady _ _ calm sink.1.1))
-    (λ more. ⊎_elim (λ out. absurd (not_steady _ _ steady out.1.1)) (λ want. absurd (enough want.0)) more) rest) printed
+    (λ rest. ⊎_elim (λ sink. absurd (steady_not_rose _ _ unfailing sink.1.1))
+    (λ more. ⊎_elim (λ out. absurd (steady_not_rose _ _ steady out.1.1)) (λ want. absurd (enough want.0)) more) rest) printed
   where
     trial : IsTrialOutcome number outcome
     trial = some_trial volume number outcome one
@@ -230,15 +238,18 @@ module _ (plan : RestorePlan) (dest : List ℕ) (images : Images) (start : Start
       of true is = first_is (passing images t) whole
       of false is = some_is (C want) (held is)
 
+  -- the same by where the want is sought
   of_sought : (want : Want) (s : Result Target Fault) → IsIn C want → IsWhole (fate_of images (addr_of want) s) → IsWhole (committed_of C images 0 want s)
   of_sought want (Err fault) held whole = whole
   of_sought want (Ok t) held whole = of_target want t held whole
 
+  -- the same of a want of the volume
   of_want : (want : VolumeWant) → IsIn C (want_of want) → IsWhole (volume_map start (fate images) want)
       → IsWhole (volume_map start (committed C images) want)
   of_want (Early want) held whole = of_sought want (sought (array_layout start) want) held whole
   of_want (Late t want) held whole = of_sought want (sought (layout_by start t) want) held whole
 
+  -- of some wants that the images have each is committed
   all_whole : (ws : List VolumeWant) → Each (λ want. IsIn C (want_of want)) ws → Each (λ want. IsWhole (volume_map start (fate images) want)) ws
       → Each (λ want. IsWhole (volume_map start (committed C images) want)) ws
   all_whole [] held whole = tt
@@ -248,9 +259,11 @@ module _ (plan : RestorePlan) (dest : List ℕ) (images : Images) (start : Start
   abbrev There : BlockMap VolumeWant Fault
   There = volume_map start (committed C images)
 
+  -- the committed listing, by the table
   abbrev Listed : Run Want Fault Step (Result Counts OpenFault)
   Listed = exec (committed C images (layout_by start table)) (bind (listing plan dest start.sup) (λ counts. Return (Ok counts)))
 
+  -- a listing that comes to a value comes to its counts
   counted : (r : Run Want Fault Step Counts) (v : Result Counts OpenFault) → (and_then r (λ counts. run [] (Ok (Ok counts)))).ending ≡ Ok v
       → (counts : Counts) × (v ≡ Ok counts)
   counted r v is = of r.ending refl
@@ -264,6 +277,7 @@ module _ (plan : RestorePlan) (dest : List ℕ) (images : Images) (start : Start
       of (Err f) e = absurd (cc (sym (ap (λ (q : Run Want Fault Step (Result Counts OpenFault)). q.ending)
           (after-err r f (λ counts. run [] (Ok (Ok counts))) e)) ∙ is))
 
+  -- the committed journey ends as the committed listing
   ends_listed : (exec There (journey plan dest start)).ending ≡ Listed.ending
   ends_listed =
       ap (λ (q : Run VolumeWant Fault Step (Result Counts OpenFault)). q.ending)
@@ -274,12 +288,14 @@ module _ (plan : RestorePlan) (dest : List ℕ) (images : Images) (start : Start
       (exec (committed C images (layout_by start t)) (bind (listing plan dest start.sup) (λ counts. Return (Ok counts))))))
       (quiet_ends Step (committed C images (array_layout start)) (table_scan start) ∙ closed.stands))
 
+  -- a committed journey that comes to a value comes to counts
   its_counts : (v : Result Counts OpenFault) → (exec There (journey plan dest start)).ending ≡ Ok v → (counts : Counts) × (v ≡ Ok counts)
   its_counts v is =
       counted (exec (committed C images (layout_by start table)) (listing plan dest start.sup)) v
       (sym (ap (λ (q : Run Want Fault Step (Result Counts OpenFault)). q.ending)
       (exec-bind (committed C images (layout_by start table)) (listing plan dest start.sup) (λ counts. Return (Ok counts)))) ∙ sym ends_listed ∙ is)
 
+-- over honest images that have all that is needed, where no committed block breaks a rule, the committed listing is restored whole
 pub restore_completes : Headline → RestoreCompletes
 restore_completes law words shelf x y answer plan dest images start C table came from begun honest closed well whole =
     let there = volume_map start (committed C images) in

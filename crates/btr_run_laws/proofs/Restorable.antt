@@ -25,6 +25,7 @@ use Rattle.btr_run_laws.specs.Example.{MeetsRestores, committed_blocks, images, 
 use Rattle.btr_run_laws.proofs.Repairable.{scan_ends}
 use Rattle.btr_run_laws.proofs.Sealed.{agreed, begun, chunk_fate, file_fate, honest, root_fate}
 
+-- the scan of the committed chunk tree comes to the table
 stands : (exec (committed committed_blocks images (array_layout start)) (table_scan start)).ending ≡ Ok (Ok table)
 unfolding is_leaf items entry_count item_at entry_key super_of sealed
 stands = refl
@@ -33,25 +34,31 @@ stands = refl
 abbrev file_needs : List VolumeWant
 file_needs = Late table (Tree 1056768 7 0) ∷ Late table (Tree 1056768 7 0) ∷ Late table (Tree 1056768 7 0) ∷ Late table (Tree 1056768 7 0) ∷ []
 
+-- all of them: the leaf of the chunk tree, twice that of the root tree, and four times that of the files
 abbrev its_needs : List VolumeWant
 its_needs = Early (Tree 1048576 7 0) ∷ Late table (Tree 1052672 7 0) ∷ Late table (Tree 1052672 7 0) ∷ file_needs
 
+-- the committed journey needs exactly these
 needs_are : needs (volume_map start (committed committed_blocks images)) (journey plan (codes "out") start) ≡ its_needs
 unfolding is_leaf items entry_count item_at entry_key is_utf8 chars encode_utf8 digits parts_within super_of sealed
 needs_are = refl
 
+-- it ends with one file
 ends : (exec (volume_map start (committed committed_blocks images)) (journey plan (codes "out") start)).ending
     ≡ Ok (Ok (record { dirs = 0; files = 1; skipped = 0 }))
 unfolding is_leaf items entry_count item_at entry_key is_utf8 chars encode_utf8 digits parts_within super_of sealed
 ends = refl
 
+-- none of its blocks breaks a rule
 well : own_fault (volume_map start (committed committed_blocks images)) (journey plan (codes "out") start) ≡ None
 unfolding is_leaf items entry_count item_at entry_key is_utf8 chars encode_utf8 digits parts_within super_of sealed
 well = refl
 
+-- what they want was committed
 held : Each (λ want. IsIn committed_blocks (want_of want)) its_needs
 held = (λ e. refl, (λ e. refl, (λ e. refl, (λ e. refl, (λ e. refl, (λ e. refl, (λ e. refl, tt)))))))
 
+-- the committed blocks hold all that is needed
 closed : IsClosed plan (codes "out") images start committed_blocks table
 unfolding super_of sealed
 closed = record {
@@ -65,15 +72,19 @@ closed = record {
 abbrev Here : VolumeWant → Type 0
 Here want = IsWhole (volume_map start (fate images) want)
 
+-- the leaf of the chunk tree is there
 chunks_here : Here (Early (Tree 1048576 7 0))
 chunks_here = subst IsWhole (sym chunk_fate) tt
 
+-- the leaf of the root tree is there
 root_here : Here (Late table (Tree 1052672 7 0))
 root_here = subst IsWhole (sym root_fate) tt
 
+-- the leaf of the tree of files is there
 file_here : Here (Late table (Tree 1056768 7 0))
 file_here = subst IsWhole (sym file_fate) tt
 
+-- each want of the committed journey has a candidate that passes
 whole : AreWhole plan (codes "out") images start committed_blocks
 whole = subst (Each Here) (sym needs_are) (chunks_here, (root_here, (root_here, (file_here, (file_here, (file_here, (file_here, tt)))))))
 
@@ -81,6 +92,7 @@ whole = subst (Each Here) (sym needs_are) (chunks_here, (root_here, (root_here, 
 agreed_so : IsAgreed images start
 agreed_so = subst (λ e. Agreed images (layout_by start (table_or start.array e))) (sym scan_ends) agreed
 
+-- the example meets what the clauses on restores ask for
 pub meets_restores : MeetsRestores
 meets_restores = record {
   begun = begun;

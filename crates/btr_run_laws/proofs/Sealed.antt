@@ -2,9 +2,6 @@
 use Rattle.std.proofs.Common.{◌≡◌, ℕ, zero, suc, ◌≤◌, List, [], ◌∷◌, length, Bool, true, false, cond, eqb-true, Option, Some, None, Result, Ok, Err, refl, sym}
 use Rattle.std.proofs.Common.{ap, ◌∙◌, subst, arith}
 use Rattle.std.specs.Prelude.{Contains, ◌==◌, ◌&&◌, filter, filter_map, slice_get}
-use Rattle.std.specs.Bool.{Decides}
-use Rattle.std.specs.Str.{bytes_eq}
-use Rattle.std.proofs.lemmas.Slice.Eq.{bytes_eq-Decides}
 use Rattle.btr_base.specs.Sum.{is_summed, stored_sum}
 use Rattle.btr_base.specs.declared.kind.SumKind.TheVariants.{Crc32c}
 use Rattle.btr_chunk.specs.Mapping.{elements_of, holds}
@@ -26,42 +23,44 @@ use Rattle.btr_restore.specs.Committed.{IsHonest}
 use Rattle.btr_volume.specs.Start.{layout_by, start_of, start_with, super_then}
 use Rattle.btr_run_laws.specs.Example.{block_at, chunk, chunk_tree, committed_blocks, extent_tree, file_tree, image, images, layout, root_tree, sealed, start}
 use Rattle.btr_run_laws.specs.Example.{super_block, table}
+use Rattle.btr_run.proofs.Reading.{same_word}
 
-pub same_word : (word : List ℕ) → bytes_eq word word ≡ true
-same_word word = of (bytes_eq word word) (bytes_eq-Decides word word)
-  where
-    of : (b : Bool) → Decides b (word ≡ word) → b ≡ true
-    of true d = refl
-    of false d = absurd (cc (d.1 refl))
-
+-- the checksum of the chunk tree's leaf is right
 pub summed_chunks : is_summed Crc32c chunk_tree ≡ true
 unfolding sealed
 summed_chunks = same_word (stored_sum Crc32c chunk_tree).bytes
 
+-- the checksum of the root tree's leaf is right
 pub summed_roots : is_summed Crc32c root_tree ≡ true
 unfolding sealed
 summed_roots = same_word (stored_sum Crc32c root_tree).bytes
 
+-- the checksum of the leaf of the tree of files is right
 pub summed_files : is_summed Crc32c file_tree ≡ true
 unfolding sealed
 summed_files = same_word (stored_sum Crc32c file_tree).bytes
 
+-- the checksum of the extent tree's leaf is right
 pub summed_extents : is_summed Crc32c extent_tree ≡ true
 unfolding sealed
 summed_extents = same_word (stored_sum Crc32c extent_tree).bytes
 
+-- the checksum of the superblock is right
 summed_super : is_summed Crc32c super_block ≡ true
 unfolding sealed
 summed_super = same_word (stored_sum Crc32c super_block).bytes
 
+-- the superblock at its place is read
 super_is : superblock super_block 65536 ≡ Ok (super_of super_block)
 unfolding superblock sealed
 super_is = ap (λ b. cond b (Ok (super_of super_block)) (Err Sum)) summed_super
 
+-- only the first place of a superblock lies in the image
 stands : standing image places ≡ superblock super_block 65536 ∷ []
 unfolding standing sealed
 stands = refl
 
+-- so it is the superblock of the image
 sup : image_super image ≡ Ok (super_of super_block)
 unfolding super_of sealed
 sup = ap slot_answer (stands ∙ ap (λ r. r ∷ []) super_is)
@@ -75,21 +74,26 @@ begun = ap (λ r. start_with images (super_then 0 r (Ok []))) sup
 of_one : {X : Type 0} (p : X → Bool) (x : X) → p x ≡ true → filter p (x ∷ []) ≡ x ∷ []
 of_one p x is = ap (λ b. cond b (x ∷ []) []) is
 
+-- the first of some candidates, or that the block is lost
 abbrev first_or_lost : ℕ → List (List ℕ) → Result (List ℕ) Fault
 first_or_lost addr found = or_lost addr (slice_get found 0)
 
+-- the chunk tree's leaf has a candidate that passes
 pub chunk_fate : fate images layout (Tree 1048576 7 0) ≡ Ok chunk_tree
 unfolding sealed
 chunk_fate = ap (first_or_lost 1048576) (of_one (passes layout.setting (Tree 1048576 7 0)) chunk_tree summed_chunks)
 
+-- the root tree's leaf has a candidate that passes
 pub root_fate : fate images layout (Tree 1052672 7 0) ≡ Ok root_tree
 unfolding sealed
 root_fate = ap (first_or_lost 1052672) (of_one (passes layout.setting (Tree 1052672 7 0)) root_tree summed_roots)
 
+-- the leaf of the tree of files has a candidate that passes
 pub file_fate : fate images layout (Tree 1056768 7 0) ≡ Ok file_tree
 unfolding sealed
 file_fate = ap (first_or_lost 1056768) (of_one (passes layout.setting (Tree 1056768 7 0)) file_tree summed_files)
 
+-- the extent tree's leaf has a candidate that passes
 pub extent_fate : fate images layout (Tree 1060864 7 0) ≡ Ok extent_tree
 unfolding sealed
 extent_fate = ap (first_or_lost 1060864) (of_one (passes layout.setting (Tree 1060864 7 0)) extent_tree summed_extents)
@@ -106,9 +110,10 @@ in_one p x c = of (p x)
     of false (k, lt, is) = absurd (omega (arith, lt))
 
 -- a test of a number
-equal : (n m : ℕ) → (n == m) ≡ true → n ≡ m
+pub equal : (n m : ℕ) → (n == m) ≡ true → n ≡ m
 equal n m e = eqb-true n m e
 
+-- a candidate of a tree block at an address that passes
 abbrev Passing : ℕ → ℕ → ℕ → List ℕ → Type 0
 Passing addr generation level candidate = Contains (passing_for images (sought layout (Tree addr generation level))) candidate
 
@@ -127,6 +132,7 @@ passing_at generation level candidate = (
 some_is : (a b : List ℕ) → ◌≡◌ {A = Option (List ℕ)} (Some a) (Some b) → a ≡ b
 some_is a b e = cc e
 
+-- what passes at an address where a block was committed is that block
 honest_at : (addr generation level : ℕ) (bytes candidate : List ℕ) → block_at addr ≡ Some bytes → Passing addr generation level candidate → candidate ≡ bytes
 honest_at addr generation level bytes candidate is passing =
     first (addr == 1048576) refl is
@@ -153,6 +159,7 @@ honest_at addr generation level bytes candidate is passing =
     first true e is = (passing_at generation level candidate).0 (at 1048576 e) ∙ some_is chunk_tree bytes is
     first false e is = second (addr == 1052672) refl is
 
+-- the image is honest
 pub honest : IsHonest committed_blocks images (layout_by start table)
 honest (Tree addr generation level) bytes candidate is passing = of ((generation == 7) && (level == 0)) is
   where
@@ -183,6 +190,7 @@ few_passing p (x ∷ []) few = of (p x)
     of false = omega arith
 few_passing p (x ∷ y ∷ xs) few = absurd (omega (arith, few))
 
+-- a want in the chunk has at most one candidate that stands
 few_reading : (want : Want) (at : Elements) → length (readings images (target layout want chunk at)) ≤ 1
 few_reading want at = of (stands_so (target layout want chunk at) (Read (Mirror 0)))
   where
@@ -191,6 +199,7 @@ few_reading want at = of (stands_so (target layout want chunk at) (Read (Mirror 
     of true = omega arith
     of false = omega arith
 
+-- two candidates of a want that pass are equal, whether it has a position in the chunk or not
 agree_at : (want : Want) (e : Result Elements MapFault) (a b : List ℕ)
     → Contains (passing_for images (sought_at layout want chunk e)) a → Contains (passing_for images (sought_at layout want chunk e)) b → a ≡ b
 agree_at want (Err Unmapped) a b p q = both_one [] a b (omega arith) p q
@@ -199,6 +208,7 @@ agree_at want (Ok at) a b p q =
     both_one (passing images (target layout want chunk at)) a b
     (few_passing (passes layout.setting want) (readings images (target layout want chunk at)) (few_reading want at)) p q
 
+-- the candidates of each tested block that pass are equal
 pub agreed : Agreed images layout
 agreed want tested a b = of (holds chunk (addr_of want))
   where

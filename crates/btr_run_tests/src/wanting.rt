@@ -1,6 +1,6 @@
 // An output that never wants memory, over a rack that does.
 ghost use Rattle.std.specs.Prelude.{None, true, false};
-ghost use Rattle.btr_rack.specs.CallsLaws.{unsure_calm};
+ghost use Rattle.btr_rack.specs.CallsLaws.{unsure_count_left};
 
 use btr_rack::{MemRack, MemTree, Out, Rack, RackError, SinkError};
 use btr_run::Answer;
@@ -61,7 +61,7 @@ impl Out for ShortOut {
 
     ghost account = { λ out. record { faults = 0; sure = false; ample = true } };
 
-    ghost calm = { λ out. unsure_calm 0 true };
+    ghost count_left = { λ out. unsure_count_left 0 true };
 
     fn put(&mut self, bytes: &[u8]) -> Result<(), SinkError> {
         self.len = keep(&mut self.bytes, self.len, bytes);

@@ -24,6 +24,7 @@ use Rattle.btr_super.specs.declared.fault.SuperFault.TheVariants.{Magic, Place, 
 small_at : (xs : List ℕ) → All (λ b. b < 256) xs → (k : ℕ) → get_or xs k 0 < 256
 small_at xs small k = by (cases_lt k (length xs))
   where
+    -- the byte is one of the list's, or 0 past the end
     by : (k < length xs) ⊎ (length xs ≤ k) → get_or xs k 0 < 256
     by (inl within) = small k 0 within
     by (inr past) = omega (arith, get_or_past xs k 0 past)
@@ -37,14 +38,17 @@ from_drop xs off i (suc n) =
     from_drop xs off (suc i) n ∙ ap (λ j. little_from j n xs) (omega arith) in
     omega (arith, first, rest)
 
+-- the number at an offset is that of its bytes, counted from there
 number_from : (xs : List ℕ) (n off : ℕ) → number_at n off xs ≡ little_from off n xs
 number_from xs n off = from_drop xs off 0 n ∙ ap (λ j. little_from j n xs) (omega arith)
 
+-- a byte of some bytes at an offset is the list's byte there
 byte_in : (xs : List ℕ) (n off k : ℕ) → k < n → get_or (bytes_at n off xs) k 0 ≡ get_or xs (off + k) 0
 byte_in xs n off k lt =
     let within : k < off + n - off = omega arith in
     get_or-take (off + n - off) (drop off xs) k 0 within ∙ get_or-drop off xs k 0
 
+-- the bytes at an offset are as many as asked, where they lie in the list
 size_in : (xs : List ℕ) (n off : ℕ) → off + n ≤ length xs → length (bytes_at n off xs) ≡ n
 size_in xs n off fits = omega (arith, length-take (off + n - off) (drop off xs), length-drop off xs)
 
@@ -54,22 +58,27 @@ module _ (xs ys : List ℕ) where
   abbrev Same : ℕ → ℕ → Type 0
   Same n off = (k : ℕ) → off ≤ k → k < off + n → get_or xs k 0 ≡ get_or ys k 0
 
+  -- copies that have the same bytes in two ranges side by side have the same in both together
   joined : (m n off : ℕ) → Same m off → Same n (off + m) → Same (m + n) off
   joined m n off front rest k le lt = by (cases_lt k (off + m))
     where
+      -- the byte lies in the first range or in the second
       by : (k < off + m) ⊎ (off + m ≤ k) → get_or xs k 0 ≡ get_or ys k 0
       by (inl before) = front k le before
       by (inr behind) = rest k behind (omega arith)
 
+  -- copies that have the same bytes in a range have the same in a part of it
   part : (n off m at : ℕ) → off ≤ at → at + m ≤ off + n → Same n off → Same m at
   part n off m at from to same k le lt = same k (omega arith) (omega arith)
 
+  -- where the bytes at an offset are equal, the copies are the same there
   from_bytes : (n off : ℕ) → bytes_at n off xs ≡ bytes_at n off ys → Same n off
   from_bytes n off e k le lt =
       let back : off + (k - off) ≡ k = omega arith in
       ap (λ j. get_or xs j 0) (sym back) ∙ sym (byte_in xs n off (k - off) (omega arith)) ∙ ap (λ l. get_or l (k - off) 0) e
       ∙ byte_in ys n off (k - off) (omega arith) ∙ ap (λ j. get_or ys j 0) back
 
+  -- where copies of one length are the same in a range, its bytes are equal
   to_bytes : length xs ≡ length ys → (n off : ℕ) → off + n ≤ length xs → Same n off → bytes_at n off xs ≡ bytes_at n off ys
   to_bytes long n off fits same =
       same_number_lists _ _ (size_in xs n off fits ∙ sym (size_in ys n off (omega (arith, long))))
@@ -77,6 +86,7 @@ module _ (xs ys : List ℕ) where
       let within : k < n = omega (arith, size_in xs n off fits) in
       byte_in xs n off k within ∙ same (off + k) (omega arith) (omega arith) ∙ sym (byte_in ys n off k within))
 
+  -- where the copies are the same in a range, its number is equal
   to_number : (n off : ℕ) → Same n off → little_from off n xs ≡ little_from off n ys
   to_number zero off same = refl
   to_number (suc n) off same =
@@ -85,10 +95,12 @@ module _ (xs ys : List ℕ) where
       omega (arith, first, rest)
 
   module _ (small : (k : ℕ) → get_or xs k 0 < 256) (small' : (k : ℕ) → get_or ys k 0 < 256) where
+    -- where the numbers of a range are equal, the copies are the same there
     from_digits : (n off : ℕ) → little_from off n xs ≡ little_from off n ys → Same n off
     from_digits zero off e k le lt = absurd (omega arith)
     from_digits (suc n) off e k le lt = by (cases_lt off k) (from_digits n (suc off) (omega (arith, small off, small' off, e)))
       where
+        -- the byte is the first of the range or a later one
         by : (off < k) ⊎ (k ≤ off) → Same n (suc off) → get_or xs k 0 ≡ get_or ys k 0
         by (inl behind) rest = rest k (omega arith) (omega arith)
         by (inr at) rest =
@@ -96,12 +108,15 @@ module _ (xs ys : List ℕ) where
             let first : get_or xs off 0 ≡ get_or ys off 0 = omega (arith, small off, small' off, e) in
             subst (λ j. get_or xs j 0 ≡ get_or ys j 0) here first
 
+    -- where the numbers at an offset are equal, the copies are the same there
     from_number : (n off : ℕ) → number_at n off xs ≡ number_at n off ys → Same n off
     from_number n off e = from_digits n off (sym (number_from xs n off) ∙ e ∙ number_from ys n off)
 
+  -- where the copies are the same at an offset, the numbers there are equal
   number : (n off : ℕ) → Same n off → number_at n off xs ≡ number_at n off ys
   number n off same = number_from xs n off ∙ to_number n off same ∙ sym (number_from ys n off)
 
+  -- where one byte is equal, the copies are the same in it
   one : (off : ℕ) → get_or xs off 0 ≡ get_or ys off 0 → Same 1 off
   one off e k le lt = let here : off ≡ k = omega arith in subst (λ j. get_or xs j 0 ≡ get_or ys j 0) here e
 
@@ -115,6 +130,7 @@ module _ (xs ys : List ℕ) where
       (numbers a ≡ numbers b) × (a.fsid ≡ b.fsid) × (a.label ≡ b.label) × (a.metadata_uuid ≡ b.metadata_uuid) × (a.reserved ≡ b.reserved)
       × (a.array ≡ b.array) × (a.backups ≡ b.backups)
 
+  -- superblocks are the same just where all their compared fields are equal
   fields_decide : (a b : Super) → Decides (is_same a b) (SameFields a b)
   fields_decide a b =
       let d = Decides-and _ _ (Decides-and _ _ (Decides-and _ _ (Decides-and _ _ (Decides-and _ _ (Decides-and _ _
@@ -125,9 +141,11 @@ module _ (xs ys : List ℕ) where
         λ f. d.1 ((((((f.0, f.1), f.2), f.3), f.4), f.5), f.6),
       )
 
+  -- the n bytes from an offset are equal
   abbrev SameBytes : ℕ → ℕ → Type 0
   SameBytes n off = bytes_at n off xs ≡ bytes_at n off ys
 
+  -- copies are the same just where the bytes of all four compared ranges are equal
   bytes_decide : Decides (are_same_copies xs ys) (SameBytes 16 0x20 × SameBytes 40 0x38 × SameBytes 88 0x70 × SameBytes 3797 0x12b)
   bytes_decide =
       let of : (n off : ℕ) → Decides (have_same n off xs ys) (SameBytes n off) = λ n off. bytes_eq-Decides (bytes_at n off xs) (bytes_at n off ys) in
@@ -135,12 +153,15 @@ module _ (xs ys : List ℕ) where
       (λ e. let p = d.0 e in (p.0.0.0, p.0.0.1, p.0.1, p.1), λ f. d.1 (((f.0, f.1), f.2), f.3))
 
   module _ (long : length xs ≡ 4096) (long' : length ys ≡ 4096) where
+    -- both copies have 4096 bytes
     whole : length xs ≡ length ys
     whole = long ∙ sym long'
 
+    -- where the copies are the same in a range of their 4096 bytes, its bytes are equal
     text : (n off : ℕ) → off + n ≤ 4096 → Same n off → bytes_at n off xs ≡ bytes_at n off ys
     text n off fits = to_bytes whole n off (omega (arith, long))
 
+    -- where all compared bytes are the same, so are the compared fields
     fields_from : SameParts → SameFields (super_of xs) (super_of ys)
     unfolding super_of
     fields_from s = (
@@ -177,6 +198,7 @@ module _ (xs ys : List ℕ) where
     )
 
     module _ (small : (k : ℕ) → get_or xs k 0 < 256) (small' : (k : ℕ) → get_or ys k 0 < 256) (magical : bytes_at 8 0x40 xs ≡ bytes_at 8 0x40 ys) where
+      -- where all compared fields are equal and both have the magic, all compared bytes are the same
       parts_from : SameFields (super_of xs) (super_of ys) → SameParts
       unfolding super_of
       parts_from f =
@@ -196,6 +218,7 @@ module _ (xs ys : List ℕ) where
                 (joined 2048 1237 0x32b (from_bytes 2048 0x32b f.5) (from_bytes 1237 0xb2b f.6)))))),
           )
 
+      -- superblocks of copies with the magic are the same just where the copies are
       same_as : is_same (super_of xs) (super_of ys) ≡ are_same_copies xs ys
       same_as =
           let fields = fields_decide (super_of xs) (super_of ys) in
@@ -207,38 +230,47 @@ module _ (xs ys : List ℕ) where
 
 -- what a valid copy has
 module _ (bytes : List ℕ) (place : ℕ) (s : Super) where
+  -- the copy has the magic, and the superblock is its fields
   abbrev Read : Type 0
   Read = (bytes_at 8 0x40 bytes ≡ magic) × (s ≡ super_of bytes)
 
+  -- a superblock as what a valid copy is read as
   abbrev the_ok : Super → Result Super SuperFault
   the_ok x = Ok x
 
+  -- two superblocks that one copy is read as are one
   the_super : (a b : Super) → the_ok a ≡ the_ok b → a ≡ b
   the_super a b e = cc
 
+  -- a valid copy has the magic, and its superblock is its fields
   valid_read : superblock bytes place ≡ Ok s → Read
   unfolding superblock
   valid_read e = by_magic (bytes_eq (bytes_at 8 0x40 bytes) magic) refl e
     where
+      -- what is valid has the sum that it should
       by_sum : bytes_at 8 0x40 bytes ≡ magic → (fits : Bool) → (if fits then Ok (super_of bytes) else Err Sum) ≡ Ok s → Read
       by_sum magical true e = (magical, sym (the_super _ _ e))
       by_sum magical false e = absurd (cc e)
 
+      -- what is valid has a checksum type that is supported
       by_kind : bytes_at 8 0x40 bytes ≡ magic → (kind : Option Kind) → summed kind bytes ≡ Ok s → Read
       by_kind magical None e = absurd (cc e)
       by_kind magical (Some kind) e = by_sum magical (is_summed kind bytes) e
 
+      -- what is valid is at its place
       by_place : bytes_at 8 0x40 bytes ≡ magic → (at : Bool)
           → (if not at then Err Place else summed (kind_of_type (number_at 2 0xc4 bytes)) bytes) ≡ Ok s → Read
       by_place magical true e = by_kind magical (kind_of_type (number_at 2 0xc4 bytes)) e
       by_place magical false e = absurd (cc e)
 
+      -- what is valid has the magic
       by_magic : (m : Bool) → bytes_eq (bytes_at 8 0x40 bytes) magic ≡ m
           → (if not m then Err Magic else if not (eqb (number_at 8 0x30 bytes) place) then Err Place
           else summed (kind_of_type (number_at 2 0xc4 bytes)) bytes) ≡ Ok s → Read
       by_magic true is e = by_place ((bytes_eq-Decides _ _).0 is) (eqb (number_at 8 0x30 bytes) place) e
       by_magic false is e = absurd (cc e)
 
+-- superblocks are the same exactly where the compared bytes of their copies are
 pub same_by_bytes : SameByBytes
 same_by_bytes xs ys a b of_a of_b =
     let x = valid_read xs of_a.place a of_a.valid in

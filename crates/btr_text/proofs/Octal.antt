@@ -4,15 +4,18 @@ use Rattle.std.specs.Fmt.{digits, digits_onto}
 use Rattle.std.proofs.lemmas.Bool.Decides.{nat_tests}
 use Rattle.std.proofs.lemmas.List.{drop_more, get_or-set_same, drop-set-lt, length-set}
 
+-- before the first digit nothing is written, with room for 64
 pub octal_begins : (n : ℕ) → digits_onto 64 8 false n [] ≡ digits 8 false n
 unfolding digits
 octal_begins n = refl
 
+-- the highest digit, where nothing is left above it, ends the number
 pub octal_last : (i n : ℕ) (acc : List ℕ) → 0 < i → n / 8 ≡ 0 → digits_onto i 8 false n acc ≡ (48 + n % 8) ∷ acc
 octal_last zero n acc some is = absurd (omega arith)
 octal_last (suc k) n acc some is =
     let e : eqb (n / 8) 0 ≡ true = grind (arith, nat_tests) in let g : ltb (n % 8) 10 ≡ true = grind (arith, nat_tests) in rw (e, g) refl
 
+-- a digit with more above it stands behind those of what is left
 pub octal_step : (i n : ℕ) (acc : List ℕ) → 0 < i → (n / 8 ≡ 0 → ⊥) → digits_onto i 8 false n acc ≡ digits_onto (i - 1) 8 false (n / 8) ((48 + n % 8) ∷ acc)
 octal_step zero n acc some is = absurd (omega arith)
 octal_step (suc k) n acc some is =

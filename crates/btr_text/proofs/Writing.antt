@@ -96,6 +96,7 @@ pub wrote_as : {old new : Option (List ℕ)} {waited waits text : List ℕ} (oth
     → Wrote old new waited waits other
 wrote_as {old = old} {new = new} {waited = waited} {waits = waits} other same a = subst (Wrote old new waited waits) same a
 
+-- a text that was cut short is the same text, said otherwise
 pub cut_as : {old new : Option (List ℕ)} {waited waits text : List ℕ} (other : List ℕ) → text ≡ other → WasCut old new waited waits text
     → WasCut old new waited waits other
 cut_as {old = old} {new = new} {waited = waited} {waits = waits} other same a = subst (WasCut old new waited waits) same a

@@ -20,9 +20,11 @@ use Rattle.btr_trial.specs.Trial.{as_checked, counted, findings_in, findings_of}
 use Rattle.btr_trial.proofs.Filesystems.{none_rose}
 
 module _ (old new : MemoryRack) (volume after : Volume) (opened : filesystem_of (held_of old) ≡ Some (filesystem_in volume)) where
+  -- the filesystem of the images, as it is checked
   abbrev fs : checked.Filesystem
   fs = as_checked (held_of old) (filesystem_in volume)
 
+  -- the check did its calls and answered so
   abbrev Ends : Result (List Finding) Stop → Type 0
   Ends result = Ran (OfCheck false) (λ fs. Answers (λ all. (refusal fs ≡ None) × (all ≡ findings false fs)) fs result) (world (sure_seen old) volume)
       (world (sure_seen new) after) result
@@ -31,17 +33,21 @@ module _ (old new : MemoryRack) (volume after : Volume) (opened : filesystem_of 
   answered : (result : Result (List Finding) Stop) → Ends result → Answers (λ all. (refusal fs ≡ None) × (all ≡ findings false fs)) fs result
   answered result ran = ran.told.calls.content First (refl, omega arith)
 
+  -- the findings of the images are counted, or the check is refused
   by_refusal : (o : Option Stop) → refusal fs ≡ o → findings_of (held_of old) ≡ counted o (findings false fs)
   by_refusal o is = ap (option_and_then (findings_in (held_of old))) opened ∙ ap (λ r. counted r (findings false fs)) is
 
+  -- where the check listed its findings, so many has a check of the images
   pub findings_listed : (all : List Finding) → Ends (Ok all) → findings_of (held_of old) ≡ Some (length all)
   findings_listed all ran =
       let h = answered (Ok all) ran in
       by_refusal None h.0 ∙ ap (λ (l : List Finding). Some (length l)) (sym h.1)
 
+  -- where the check stopped for the filesystem's own sake, a check of the images is refused
   stopped : (end : Stop) → is_outside end ≡ false → Ends (Err end) → findings_of (held_of old) ≡ None
   stopped end own ran = by_refusal (Some end) (answered (Err end) ran own)
 
+  -- where the check stopped for anything but want of memory, a check of the images is refused
   pub findings_stopped : (end : Stop) → (end ≡ stop.Memory → ⊥) → Ends (Err end) → findings_of (held_of old) ≡ None
   findings_stopped (stop.NoTree id) own ran = stopped (stop.NoTree id) refl ran
   findings_stopped (stop.Tree (tree.Lost a)) own ran = stopped (stop.Tree (tree.Lost a)) refl ran

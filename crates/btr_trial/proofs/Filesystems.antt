@@ -6,7 +6,7 @@ use Rattle.btr_prog.specs.Calls.{First}
 use Rattle.btr_prog.specs.Prog.{exec}
 use Rattle.btr_rack.specs.Memory.{MemoryRack, held_of}
 use Rattle.btr_rack.specs.Rack.{OnlyReads, Rose, Seen, Steady}
-use Rattle.btr_read.proofs.Compared.{compares_steady}
+use Rattle.btr_read.proofs.Compared.{compares_steady, steady_not_rose}
 use Rattle.btr_read.specs.Fate as fault
 use Rattle.btr_read.specs.Fate.{Fault, fate}
 use Rattle.btr_volume.specs.Maps.{array_layout}
@@ -29,18 +29,17 @@ use Rattle.btr_trial.specs.Sure.{KeepsOpen, sure_seen}
 pub steady_none : Steady 0 0
 steady_none = (omega arith, omega arith)
 
+-- a count of faults that stays at 0 didn't rise
 pub none_rose : Rose 0 0 → ⊥
 none_rose rose = omega (arith, rose.1)
 
-steady_not_rose : (before now : ℕ) → Steady before now → Rose before now → ⊥
-steady_not_rose before now steady rose = omega (arith, steady.0, steady.1, rose.0, rose.1)
-
+-- the filesystem of some images is that of what they start as
 by_start : (images : Images) → filesystem_of images ≡ with_start images (start_of images)
 unfolding filesystem_of
 by_start images = refl
 
 -- the scan of the chunk tree is that over the images
-scanned : (start : Start) (old new : Seen) (images : Images) (answer : Result TableResult (Halt Fault UnreadBlock)) → old.held ≡ Some images
+pub scanned : (start : Start) (old new : Seen) (images : Images) (answer : Result TableResult (Halt Fault UnreadBlock)) → old.held ≡ Some images
     → Steady old.account.faults new.account.faults → Scans start old new answer
     → Follows {S = ⊥} (unread_by (array_layout start) old new) no_part [] (exec (fate images (array_layout start)) (table_scan start)) [] answer
 scanned start old new images answer told steady scans =
@@ -70,6 +69,7 @@ module _ (old new : Seen) (images : Images) (told : old.held ≡ Some images) (s
       let scan = scanned s.start old new images (Err (halts f)) told steady s.scans in
       by_start images ∙ ap (with_start images) s.is ∙ ap (with_table images s.start) scan.1
 
+  -- where a block of the chunk tree can't be had, the images are no filesystem
   by_tree : (f : TreeFault) → OpenCause {T = Volume} old new (Err (opening.Tree f)) → Starts images old new (Err (halt_of f)) → filesystem_of images ≡ None
   by_tree (tree.Lost a) cause s = by_fault (fault.Lost a) s
   by_tree (tree.Unmapped a) cause s = by_fault (fault.Unmapped a) s
@@ -90,6 +90,7 @@ module _ (old new : Seen) (images : Images) (told : old.held ≡ Some images) (s
       let some = compares_steady images (layout_by d.start d.chunks) (root_want d.start.sup) old new (Some slot) told steady d.differ in
       by_start images ∙ ap (with_start images) d.is ∙ ap (with_table images d.start) scan.1 ∙ ap (with_roots d.start d.chunks) (sym some)) why
 
+  -- where opening was refused for anything but want of memory, the images are no filesystem
   refused : (refusal : OpenFault) → (refusal ≡ opening.Memory → ⊥) → OpenCause {T = Volume} old new (Err refusal) → Opens images old new (Err refusal)
       → filesystem_of images ≡ None
   refused (opening.ImageFault slot) own cause opens = absurd (steady_not_rose old.account.faults new.account.faults steady cause.faults)
@@ -108,9 +109,10 @@ module _ (old new : Seen) (images : Images) (told : old.held ≡ Some images) (s
   refused (opening.Limit which count) own cause opens = by_refusal (opening.Limit which count) opens
 
 -- what was only read is open as before
-images_in : (a b : Images) → ◌≡◌ {A = Option Images} (Some a) (Some b) → a ≡ b
+pub images_in : (a b : Images) → ◌≡◌ {A = Option Images} (Some a) (Some b) → a ≡ b
 images_in a b e = cc e
 
+-- where a rack was only read, the same images are open, with the bytes that they had
 pub kept_open : (old new : MemoryRack) → OnlyReads (sure_seen old) (sure_seen new) → KeepsOpen old new
 kept_open old new reads = record {
   slots = ap (λ (s : Seen). s.slots) reads.same;
@@ -119,13 +121,16 @@ kept_open old new reads = record {
 
 -- over a rack that is sure
 module _ (old new : MemoryRack) (reads : OnlyReads (sure_seen old) (sure_seen new)) where
+  -- the rack holds the same open images as before the calls
   here : held_of new ≡ held_of old
   here = (kept_open old new reads).held
 
+  -- where a volume was opened, it is the filesystem of the images, and can be read
   pub opens_volume : (volume : Volume) → IsFresh (sure_seen new) volume → Opens (held_of old) (sure_seen old) (sure_seen new) (Ok volume)
       → OpensAs new (Some volume)
   opens_volume volume fresh opens = (fresh, ap filesystem_of here ∙ opened (sure_seen old) (sure_seen new) (held_of old) refl steady_none volume opens)
 
+  -- where opening was refused for anything but want of memory, the rack's images are no filesystem
   pub opens_nothing : (refusal : OpenFault) → (refusal ≡ opening.Memory → ⊥) → OpenCause {T = Volume} (sure_seen old) (sure_seen new) (Err refusal)
       → Opens (held_of old) (sure_seen old) (sure_seen new) (Err refusal) → OpensAs new None
   opens_nothing refusal own cause opens = ap filesystem_of here ∙ refused (sure_seen old) (sure_seen new) (held_of old) refl steady_none refusal own cause opens

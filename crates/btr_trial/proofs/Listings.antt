@@ -51,32 +51,39 @@ tree_step s (Line text) = of s.tree
     of None = refl
     of (Some t) = refl
 
+-- what some steps do to what stands in a sink that tells it
 told_steps : (steps : List Step) (s : Sink) (t : Tree) → s.tree ≡ Some t → (fold sink_after s steps).tree ≡ Some (fold after_step t steps)
 told_steps [] s t is = is
 told_steps (step ∷ steps) s t is = told_steps steps (sink_after s step) (after_step t step) (tree_step s step ∙ ap (option_map (λ t. after_step t step)) is)
 
 -- the map of the first copies is one map, by which a program has one run
-one_map : (B : Map) (ws : List Want) → Each (λ w. (i : ℕ) → B w ≡ B w) ws
+pub one_map : (B : Map) (ws : List Want) → Each (λ w. (i : ℕ) → B w ≡ B w) ws
 one_map B [] = tt
 one_map B (w ∷ ws) = (λ i. refl, one_map B ws)
 
-one_run : {A : Type 0} (p : Program Step A) (B : Map) (r : Run Want Fault Step A) → GoesTo (λ (n : ℕ). B) p r → r ≡ exec B p
+-- where one map stands for all choices, a program has one run
+pub one_run : {A : Type 0} (p : Program Step A) (B : Map) (r : Run Want Fault Step A) → GoesTo (λ (n : ℕ). B) p r → r ≡ exec B p
 one_run p B r goes = goes_one (λ (n : ℕ). B) B p r (one_map B (needs B p)) goes
 
 module _ (number : ℕ) (old new : MemoryRack) (volume after : Volume) (opened : filesystem_of (held_of old) ≡ Some (filesystem_in volume))
     (tree tree' : MemoryTree) (out out' : MemoryOut) (empty : tree ≡ empty_tree) (blank : out ≡ empty_out) where
+  -- the listing of the restore of a trial
   abbrev p : Program Step Counts
   p = listing whole (codes "out") volume.sup
 
+  -- its run over the images
   abbrev run : Run Want Fault Step Counts
   run = exec (fate (held_of old) volume.store.layout) p
 
+  -- what is seen of a sink in memory and of an output in memory
   abbrev seen_by : MemoryTree → MemoryOut → Outside
   seen_by t o = outside (sink_of t.tree) (account_of t.calls) (Some o.text) (account_of o.calls)
 
+  -- the restore did the steps of the listing, from an empty sink and output on, and answered so
   abbrev Ends : Result Counts Stop → Type 0
   Ends result = Ran p (world (sure_seen old) volume (seen_by tree out)) (world (sure_seen new) after (seen_by tree' out')) result
 
+  -- in these calls the want is the one that could not be read
   abbrev Is : UnreadBlock → Want → Type 0
   Is = unread_by volume.store.layout (sure_seen old) (sure_seen new)
 
@@ -87,9 +94,11 @@ module _ (number : ℕ) (old new : MemoryRack) (volume after : Volume) (opened :
       subst (λ (r : Run Want Fault Step Counts). Follows Is part [] r ran.did.done (ended result))
       (one_run p (fate (held_of old) volume.store.layout) goes.0 goes.1) goes.2
 
+  -- what a restore of the images comes to, by how the run ended
   by_run : (ending : Result Counts Fault) → run.ending ≡ ending → restored_same number (held_of old) ≡ ended_same number run ending
   by_run ending is = ap (option_and_then (λ fs. same_run number (restored_in (held_of old) fs))) opened ∙ ap (ended_same number run) is
 
+  -- where the restore came to its end, the rows of its sink are those of the made directories or not
   pub restored_listed : (counts : Counts) → Ends (Ok counts) → restored_same number (held_of old)
       ≡ Some (same_rows (drop 1 tree'.tree.rows) (directories 0 number))
   restored_listed counts ran =
@@ -99,9 +108,11 @@ module _ (number : ℕ) (old new : MemoryRack) (volume after : Volume) (opened :
       let same : tree'.tree ≡ tree_after (steps_of run.marks) = some_is tree'.tree (tree_after ran.did.done) stands ∙ ap tree_after h.0 in
       by_run (Ok counts) h.1 ∙ ap (λ (t : Tree). Some (same_rows (drop 1 t.rows) (directories 0 number))) (sym same)
     where
+      -- what is there is one tree
       some_is : (a b : Tree) → ◌≡◌ {A = Option Tree} (Some a) (Some b) → a ≡ b
       some_is a b e = cc e
 
+  -- where the run ended with a fault, a restore of the images is refused
   stopped : (f : Fault) → run.ending ≡ Err f → restored_same number (held_of old) ≡ None
   stopped f is = by_run (Err f) is
 
@@ -109,6 +120,7 @@ module _ (number : ℕ) (old new : MemoryRack) (volume after : Volume) (opened :
   absurdly true is not_so = cc
   absurdly false is not_so = cc
 
+  -- where the restore stopped for anything but want of memory, a restore of the images is refused
   pub restored_stopped : (end : Stop) → (end ≡ stop.Memory → ⊥) → Ends (Err end) → restored_same number (held_of old) ≡ None
   restored_stopped (stop.NoTree id) own ran = stopped (fault.NoTree id) (follows (Err (stop.NoTree id)) ran).1
   restored_stopped (stop.Tree (walk.Lost a)) own ran = stopped (fault.Lost a) (follows (Err (stop.Tree (walk.Lost a))) ran).1

@@ -21,9 +21,11 @@ pub record Scrubs (old new : MemoryRack) (lost : Result Tally Stop) : Type 0 whe
   pub left_is : held_of new ≡ scrubbed (held_of old)
 
 module _ (old new : MemoryRack) (volume : Volume) (opened : filesystem_of (held_of old) ≡ Some (filesystem_in volume)) where
+  -- the scrub ended as its contract says, and answered so
   abbrev Ends : Result Tally Stop → Type 0
   Ends result = IsScrubbed (called volume true (sure_seen old) (sure_seen new) result)
 
+  -- what the effect on the images says is what the scrub came to and left
   by_effect : (result : Result Tally Stop) → HasEffect (called volume true (sure_seen old) (sure_seen new) result) (held_of old) (held_of new)
       → Scrubs old new result
   by_effect result h = record {
@@ -31,13 +33,16 @@ module _ (old new : MemoryRack) (volume : Volume) (opened : filesystem_of (held_
     left_is = h.same ∙ sym (ap (λ o. option_map_or (λ fs. (effect true (held_of old) fs).images) o (held_of old)) opened);
   }
 
+  -- as no call of the rack failed, the scrub answers by the images
   answered : (result : Result Tally Stop) → Ends result → AnswersAs (called volume true (sure_seen old) (sure_seen new) result) (held_of old)
       (held_of new) result
   answered result s = s.answers (inl steady_none)
 
+  -- a scrub that came to its end has the tally of the images, and left them as that effect does
   pub scrub_done : (tally : Tally) → Ends (Ok tally) → Scrubs old new (Ok tally)
   scrub_done tally s = by_effect (Ok tally) (answered (Ok tally) s)
 
+  -- a scrub that stopped for anything but want of memory has no tally, and left the images as that effect does
   pub scrub_stopped : (end : Stop) → (end ≡ stop.Memory → ⊥) → Ends (Err end) → Scrubs old new (Err end)
   scrub_stopped (stop.NoTree id) own s = by_effect (Err (stop.NoTree id)) (answered (Err (stop.NoTree id)) s)
   scrub_stopped (stop.Tree (tree.Lost a)) own s = by_effect (Err (stop.Tree (tree.Lost a))) (answered (Err (stop.Tree (tree.Lost a))) s)

@@ -5,6 +5,7 @@ use Rattle.btr_trial.specs.Sure.{spoiled_at}
 use Rattle.btr_trial.specs.Trial.{findings_of, lost_of, mended, once_spoiled, restored_same, scrubbed, trial_of, twice_spoiled}
 use Rattle.btr_trial.specs.declared.tried.Tried.{Tried}
 
+-- what the steps came to, each over the images that the one before left, is what the trial of the volume comes to
 pub all_tried : (number : ℕ) (h0 h1 h2 h3 h4 h5 : Images) (findings : Option ℕ) (first : Option Bool) (lost : Option ℕ) (second : Option Bool)
     → findings ≡ findings_of h0 → h1 ≡ h0 → h2 ≡ spoiled_at h1 (number % 3) → first ≡ restored_same number h2 → h3 ≡ h2 → lost ≡ lost_of h3 → h4 ≡ scrubbed h3
     → h5 ≡ spoiled_at h4 ((number + 1) % 3) → second ≡ restored_same number h5

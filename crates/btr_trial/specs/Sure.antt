@@ -18,7 +18,7 @@ sure_seen rack = as_sure (seen_of rack)
 
 -- what is seen of such a rack is what is seen of a rack
 pub sound_sure : (rack : MemoryRack) → IsRack (sure_seen rack)
-sound_sure rack = record { sized = (sound_rack rack).sized; bytes = (sound_rack rack).bytes; calm = λ sure. omega arith }
+sound_sure rack = record { sized = (sound_rack rack).sized; bytes = (sound_rack rack).bytes; count_left = λ sure. omega arith }
 
 -- the names of the images of a volume that is tried
 abbrev pub volume_names : List (List ℕ)

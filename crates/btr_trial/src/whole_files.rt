@@ -1,7 +1,7 @@
 // A sink in memory to which a file's bytes are put at once.
 ghost use Rattle.std.specs.Prelude.{◌≡◌, ◌<◌, ◌++◌, false, refl, replicate, OnOk, OnErr, IfErr};
 ghost use Rattle.btr_rack.specs.Calls.{account_of};
-ghost use Rattle.btr_rack.specs.CallsLaws.{calm_calls};
+ghost use Rattle.btr_rack.specs.CallsLaws.{calls_count_left};
 ghost use Rattle.btr_rack.specs.MemTree.{empty_tree, sink_of};
 ghost use Rattle.btr_rack.specs.MemTreeLaws.{sound_tree};
 
@@ -75,7 +75,7 @@ impl TreeSink for WholeFiles {
 
     ghost account = { λ files. account_of files.calls };
 
-    ghost calm = { λ files. calm_calls files.calls };
+    ghost count_left = { λ files. calls_count_left files.calls };
 
     ghost sound = { λ files. sound_tree files.tree };
 

@@ -1,6 +1,6 @@
-mod Readings
+pub mod Readings
 pub mod Looked
 pub mod Onward
 mod Roots
 mod Members
-mod Opened
+pub mod Opened

@@ -45,6 +45,7 @@ module _ {A : Type 0} (Is : UnreadBlock → Want → Type 0) (B : Map) where
   judged_follows seen p (Err (Unmapped a)) j = absurd j
   judged_follows seen p (Err (Crosses a)) j = absurd j
 
+  -- what is made of an item that was found follows the lookup of the item, and then the program of what is made of it
   found_follows : (root : RootPlace) (key : Key) (k : Option TreeItem → Lookup A) (found : Result (Option TreeItem) TreeFault)
       (answer : Result A TreeFault) → Follows {S = ⊥} Is no_part [] (exec B (le root key)) [] (answer_of found) → JudgesFound k found answer
       → Follows {S = ⊥} Is no_part [] (exec B (bind (le root key) k)) [] (answer_of answer)
@@ -67,15 +68,18 @@ looks_found layout old new root key k found answer t j =
     (λ B f. found_follows (unread_by layout old new) B root key k (items_of found) answer f j) t
 
 module _ {A : Type 0} (k : Option TreeItem → Lookup A) (answer : Result A TreeFault) where
+  -- a fault of a lookup is what comes of it
   pub judges_err : (r : Result (Option Found) TreeFault) (fault : TreeFault) → r ≡ Err fault → answer ≡ Err fault → JudgesFound k (items_of r) answer
   judges_err r fault is e = subst (λ (x : Result (Option Found) TreeFault). JudgesFound k (items_of x) answer) (sym is) e
 
+  -- where no item was found, the value that is made of none comes of a lookup
   pub judges_none : (r : Result (Option Found) TreeFault) (o : Option Found) (a : A) → r ≡ Ok o → o ≡ None → k None ≡ Return a → answer ≡ Ok a
       → JudgesFound k (items_of r) answer
   judges_none r o a is none program e =
       subst (λ (x : Result (Option Found) TreeFault). JudgesFound k (items_of x) answer) (sym (is ∙ ap (λ x. Ok x) none))
       (subst (λ x. Judges (k None) x) (sym e) program)
 
+  -- where an item was found, what it was judged to be comes of a lookup
   pub judges_some : (r : Result (Option Found) TreeFault) (o : Option Found) (found : Found) (judged : Result A TreeFault) → r ≡ Ok o → o ≡ Some found
       → Judges (k (Some (item_of found))) judged → answer ≡ judged → JudgesFound k (items_of r) answer
   judges_some r o found judged is some j e =

@@ -39,14 +39,17 @@ not_among g slot devid (x ∷ xs) (l ∷ lens) none =
     if_false (x.devid == devid) (Some (member g slot x l).device) (device_in (devices_from g (slot + 1) xs lens) devid) no.0
     ∙ not_among g (slot + 1) devid xs lens no.1
 
+-- a search that finds nothing finds nothing at its first slot, and nothing behind it
 not_some : (b : Bool) (slot : ℕ) (o : Option ℕ) → (if b then Some slot else o) ≡ None → (b ≡ false) × (o ≡ None)
 not_some true slot o e = absurd (cc e)
 not_some false slot o e = (refl, e)
 
 module _ (supers : List Super) (slot : ℕ) (d : Super) (lt : slot < length supers) where
+  -- the superblock of the slot
   abbrev this : Super
   this = get_or supers slot d
 
+  -- the superblocks up to the slot and with it are those before it, and its own
   one_taken : take (slot + 1) supers ≡ take slot supers ++ this ∷ []
   one_taken = take_more supers slot d lt
 
@@ -60,6 +63,7 @@ module _ (supers : List Super) (slot : ℕ) (d : Super) (lt : slot < length supe
       (both.0, ap (λ xs. twin_from (slot + 1) xs (drop (slot + 1) supers)) one_taken ∙ both.1)
 
   module _ (g : ℕ) (slots : List Slot) (within : slot < length slots) where
+    -- the lengths of the slots' images
     abbrev lens : List ℕ
     lens = map (λ slot. slot.len) slots
 
@@ -121,6 +125,7 @@ blank = record {
   backups = [];
 }
 
+-- an option that is nothing has no value
 pub none_is : {A : Type 0} (o : Option A) → o ≡ None → IsNone o
 none_is o e = subst IsNone (sym e) refl
 
@@ -149,6 +154,7 @@ equal a b e = grind arith
 the_device : (a b : Device) → Some a ≡ Some b → a ≡ b
 the_device a b e = cc
 
+-- a device of some superblocks stands where one of them does, with this image's length
 located : (g slot : ℕ) (xs : List Super) (lens : List ℕ) (devid : ℕ) (device : Device) → device_in (devices_from g slot xs lens) devid ≡ Some device
     → At slot xs lens devid device
 located g slot [] lens devid device e = absurd (cc e)
@@ -183,9 +189,11 @@ located g slot (x ∷ xs) (l ∷ lens) devid device e = by (x.devid == devid) re
         get_or-cons x xs i d = ap (λ n. get_or (x ∷ xs) n d) (add-one i)
 
 module _ (g : ℕ) (supers : List Super) (slots : List Slot) where
+  -- the devices of all images
   abbrev given : List Member
   given = devices_from g 0 supers (map (λ slot. slot.len) slots)
 
+  -- the devices of the images are open in their slots
   pub are_open : AreOpen slots given
   are_open devid device e =
       let a = located g 0 supers (map (λ (x : Slot). x.len) slots) devid device e in
@@ -196,6 +204,7 @@ module _ (g : ℕ) (supers : List Super) (slots : List Slot) where
             ∙ get_or-map (λ (x : Slot). x.len) slots device.slot no_slot 0 within);
       }
 
+  -- no slot is that of two devices of the images
   pub own_slots : HaveOwnSlots given
   own_slots d e a b at bt same =
       let x = located g 0 supers (map (λ (x : Slot). x.len) slots) d a at in

@@ -58,9 +58,11 @@ module _ (supers : List Super) (s : Super) (is : newest supers ≡ Some s) (lens
       ap (start_by supers lens) is ∙ ap (started s (devices_from s.generation 0 supers lens)) none ∙ made.3 (devices_from s.generation 0 supers lens)
       ∙ ap {A = Layout} (λ l. Ok (record { sup = s; devices = l.devices; setting = l.setting; array = l.chunks })) (sym layout)
 
+-- a start, as a result
 abbrev the_ok : Start → Result Start OpenFault
 the_ok x = Ok x
 
+-- the chunks of a start are those of its superblock's system array
 array_kept : (s : Super) (devices : List Member) (kind : Option SumKind) (x : Start) → with_kind s devices kind ≡ Ok x → array_of (array_bytes s) ≡ Ok x.array
 array_kept s devices None x e = absurd (cc e)
 array_kept s devices (Some kind) x e = by (array_of (array_bytes s)) e
@@ -90,10 +92,12 @@ same_seen old new same none =
 
 -- what the superblocks come to over the images
 module _ (slots : List Slot) (supers : List Super) where
+  -- what a volume begins with, or is refused for, by the superblocks of the images it begins with, or is refused for, by the images
   prepares_of : (images : Images) (r : Result Volume OpenFault) → map length images ≡ map (λ s. s.len) slots → supers_from 0 images ≡ Ok supers
       → NoneAtFault r → BeginsVolume supers (map (λ s. s.len) slots) r → Prepares images r
   prepares_of images r sized read early begins = by r early begins
     where
+      -- the start of the images is the one by their superblocks and the lengths of their slots
       whole : start_of images ≡ start_by supers (map (λ s. s.len) slots) (newest supers)
       whole = ap (start_with images) read ∙ ap (λ lens. start_by supers lens (newest supers)) sized
 
@@ -114,6 +118,7 @@ module _ (slots : List Slot) (supers : List Super) where
       by (Err (bad_chunk start)) early e = whole ∙ e
       by (Err (Limit which n)) early e = whole ∙ e
 
+  -- where the images are told, what a volume begins with, or is refused for, by their superblocks it is by them
   pub prepared : (held : Option Images) (r : Result Volume OpenFault) → Sized held slots → IfSome held (λ images. supers_from 0 images ≡ Ok supers)
       → NoneAtFault r → BeginsVolume supers (map (λ s. s.len) slots) r → IfSome held (λ images. Prepares images r)
   prepared None r sized read early begins = tt
@@ -121,6 +126,7 @@ module _ (slots : List Slot) (supers : List Super) where
 
 -- a refusal before the chunk tree is read
 module _ (old new : Seen) where
+  -- what lies behind a refusal by the superblocks may lie behind one of opening
   pub refused_early : (refusal : OpenFault) (T : Type 0) → SupersCause {T = Volume} old new (Err refusal) → OpenCause {T = T} old new (Err refusal)
   refused_early Memory T h = tt
   refused_early (ImageFault slot) T h = h
@@ -137,6 +143,7 @@ module _ (old new : Seen) where
   refused_early (bad_chunk start) T h = tt
   refused_early (Limit which n) T h = h.0
 
+  -- a refusal by the start of the images may be answered by opening
   opens_early : (images : Images) (refusal : OpenFault) → Prepares images (Err refusal) → Opens images old new (Err refusal)
   opens_early images Memory h = tt
   opens_early images (ImageFault slot) h = tt
@@ -153,6 +160,7 @@ module _ (old new : Seen) where
   opens_early images (bad_chunk start) h = inl h
   opens_early images (Limit which n) h = inl h
 
+  -- where the images are told, a refusal by their start may be answered by opening
   pub told_early : (held : Option Images) (refusal : OpenFault) → IfSome held (λ images. Prepares images (Err refusal))
       → IfSome held (λ images. Opens images old new (Err refusal))
   told_early None refusal h = tt
@@ -177,6 +185,7 @@ module _ (old new : Seen) where
   refused_late begun BadArray T U h = absurd h
 
   module _ (volume : Volume) where
+    -- a refusal by what the scan of the chunk tree came to may be answered by opening
     opens_late : (images : Images) (refusal : OpenFault) (layout : Layout) (T : Type 0) → TableCause {T = T} layout old new (Err refusal)
         → start_of images ≡ Ok (start_in volume) → ReadsTable volume.sup volume.store.layout old new (Err refusal) → Opens images old new (Err refusal)
     opens_late images Memory layout T c is h = tt
@@ -194,6 +203,7 @@ module _ (old new : Seen) where
     opens_late images LogPending layout T c is h = absurd c
     opens_late images BadArray layout T c is h = absurd c
 
+    -- where the images are told, a refusal by what the scan of their chunk tree came to may be answered by opening
     pub told_late : (held : Option Images) (refusal : OpenFault) (layout : Layout) (T : Type 0) → TableCause {T = T} layout old new (Err refusal)
         → IfSome held (λ images. start_of images ≡ Ok (start_in volume)) → ReadsTable volume.sup volume.store.layout old new (Err refusal)
         → IfSome held (λ images. Opens images old new (Err refusal))
@@ -202,12 +212,14 @@ module _ (old new : Seen) where
 
 -- what was scanned stands while more is read
 module _ (start : Start) (old now new : Seen) (reads : OnlyReads now new) (table : TableResult) where
+  -- what the chunk tree was scanned to follows its program, so far as all calls can tell
   scans_by : (sure : Sure) → CanTell (AgreedOn (array_layout start)) sure (shown old) (shown new) → Scans start old now (Ok table)
       → OnMap (array_layout start) (λ B. Follows {S = ⊥} (unread_by (array_layout start) old new) no_part [] (exec B (table_scan start)) []
       (Ok table)) sure old.held
-  scans_by First calm h = h.calls.content First (omega (arith, calm.0, h.calls.later, reads.later), omega (arith, calm.1, reads.later))
+  scans_by First steady h = h.calls.content First (omega (arith, steady.0, h.calls.later, reads.later), omega (arith, steady.1, reads.later))
   scans_by Any agreed h = h.calls.content Any agreed
 
+  -- what the chunk tree was scanned to stands while more is read
   pub scans_still : Scans start old now (Ok table) → Scans start old new (Ok table)
   scans_still h = record {
     calls = record { same = same_held reads ∙ h.calls.same; later = omega (arith, h.calls.later, reads.later); content = λ sure can. scans_by sure can h };
@@ -217,6 +229,7 @@ module _ (start : Start) (old now new : Seen) (reads : OnlyReads now new) (table
 module _ (old now new : Seen) (volume : Volume) (store : Blocks) (chunks : List Chunk) (first : OnlyReads old now) (then : OnlyReads now new)
     (layout : store.layout ≡ record (volume.store.layout) { chunks = chunks })
     (tells : ReadsTable volume.sup volume.store.layout old now (Ok chunks)) where
+  -- the root block's candidates were compared as these chunks find them, also from before the scan on
   compared : (slot : Option ℕ) → Compares store.layout (root_want volume.sup) now new slot → ComparesRoots (start_in volume) chunks old new slot
   compared slot h = compares_before (layout_by (start_in volume) chunks) (root_want volume.sup) old now new slot first
       (subst (λ (l : Layout). Compares l (root_want volume.sup) now new slot) layout h)
@@ -250,6 +263,7 @@ module _ (old now new : Seen) (volume : Volume) (store : Blocks) (chunks : List 
     differ = compared (Some slot) h;
   })
 
+  -- where the root block's candidates don't agree, that lies behind the refusal
   pub diverged_cause : (slot : ℕ) (T : Type 0) → IfSome old.held (λ images. start_of images ≡ Ok (start_in volume))
       → Compares store.layout (root_want volume.sup) now new (Some slot) → OpenCause {T = T} old new (Err (Diverged slot))
   diverged_cause slot T is h = inr (record { start = start_in volume; is = is }, chunks, compared (Some slot) h)
@@ -266,11 +280,12 @@ pub passed : {A : Type 0} (P : Result A OpenFault → Type 0) (r : Result A Open
 passed P (Ok a) refusal h p = absurd h
 passed {A} P (Err e) refusal h p = subst (λ (x : OpenFault). P (Err x)) (sym h) p
 
--- a volume that was opened is the one of the images
+-- what holds on the block map of the images that are told holds on that of these images, where these are told
 told_of : (images : Images) (layout : Layout) (P : Map → Type 0) (h : Option Images) (sure : Sure) → h ≡ Some images → OnMap layout P sure h
     → P (fate images layout)
 told_of images layout P h sure e p = subst (λ x. OnMap layout P sure x) e p
 
+-- a volume that was opened is the one of the images, where no read failed or all copies agree
 pub opened_is : OpenedIsOfImages
 opened_is images old new volume held opened known = record {
   start = opened.start;
@@ -279,11 +294,13 @@ opened_is images old new volume held opened known = record {
   table = (by known).1;
 }
   where
+    -- under a block map the scan of the chunk tree comes to the volume's chunks
     P : Map → Type 0
     P B = Follows {S = ⊥} (unread_by (array_layout opened.start) old new) no_part [] (exec B (table_scan opened.start)) [] (Ok (Ok volume.store.layout.chunks))
 
+    -- where no read failed or all copies agree, the scan comes to them under the map of the images
     by : NoReadFailed old.account.faults new.account.faults ⊎ Agreed images (array_layout opened.start) → P (fate images (array_layout opened.start))
-    by (inl calm) = told_of images (array_layout opened.start) P old.held First held (opened.scans.calls.content First calm)
+    by (inl steady) = told_of images (array_layout opened.start) P old.held First held (opened.scans.calls.content First steady)
     by (inr agreed) = told_of images (array_layout opened.start) P old.held Any held
         (opened.scans.calls.content Any (subst (λ h. AgreedOn (array_layout opened.start) h) (sym held) agreed))
 

@@ -41,12 +41,14 @@ next_super images slot r lt is =
     ap (supers_from slot) (drop-cons images slot [] lt ∙ ap (λ k. get_or images slot [] ∷ drop k images) (sym (add-one slot)))
     ∙ ap (λ s. super_then slot s (supers_from (slot + 1) (drop (slot + 1) images))) is
 
+-- superblocks before one more and a result are those with that one, before the result
 one_more : (before : List Super) (s : Super) (slot : ℕ) (rest : Result (List Super) OpenFault) → prefixed before (super_then slot (Ok s) rest)
     ≡ prefixed (before ++ s ∷ []) rest
 one_more before s slot (Ok more) = ap (λ l. Ok l) (sym (append_assoc before (s ∷ []) more))
 one_more before s slot (Err refusal) = refl
 
 module _ (slots : List Slot) (before : List Super) (slot : ℕ) (within : slot < length slots) where
+  -- where the superblock of a slot was read, those up to it and with it were
   pub read_more : (held : Option Images) (s : Super) (after : List Super) → Sized held slots → ReadSoFar held before slot → Found held slot (Ok s)
       → after ≡ before ++ s ∷ [] → ReadSoFar held after (slot + 1)
   read_more None s after sized so found is = tt
@@ -55,6 +57,7 @@ module _ (slots : List Slot) (before : List Super) (slot : ℕ) (within : slot <
       ∙ one_more before s slot (supers_from (slot + 1) (drop (slot + 1) images))
       ∙ ap (λ l. prefixed l (supers_from (slot + 1) (drop (slot + 1) images))) (sym is)
 
+  -- where a slot has no superblock, reading the superblocks comes to its refusal
   pub read_fault : (held : Option Images) (fault : SlotFault) → Sized held slots → ReadSoFar held before slot → Found held slot (Err fault)
       → IfSome held (λ images. ReadsSupers images (Err (no_super slot fault)))
   read_fault None fault sized so found = tt
@@ -64,9 +67,11 @@ module _ (slots : List Slot) (before : List Super) (slot : ℕ) (within : slot <
   read_fault (Some images) (kind_fault n) sized so found = so
       ∙ ap (prefixed before) (next_super images slot (Err (kind_fault n)) (omega (arith, many images slots sized)) (found (λ e. cc)))
 
+-- where only the account may have changed in two steps, only it may have in both
 pub only_counts_twice : (old mid new : Seen) → OnlyCounts old mid → OnlyCounts mid new → OnlyCounts old new
 only_counts_twice old mid new a b = b ∙ ap {A = Seen} (λ s. record s { account = new.account }) a
 
+-- where no call failed in two steps, none failed in both
 pub none_failed_twice : (old mid new : Account) → NoneFailed old mid → NoneFailed mid new → NoneFailed old new
 none_failed_twice old mid new a b = record {
   faults = omega (arith, a.faults, b.faults);
@@ -77,12 +82,15 @@ none_failed_twice old mid new a b = record {
   shut = b.shut ∙ a.shut;
 }
 
-rose_behind : (old mid new : ℕ) → old ≤ mid → Rose mid new → Rose old new
+-- a count that didn't fall, and then rose, rose in all
+pub rose_behind : (old mid new : ℕ) → old ≤ mid → Rose mid new → Rose old new
 rose_behind old mid new le rose = (omega (arith, rose.0), omega (arith, rose.1))
 
-some_fresh : (old new : ℕ) → new ≡ next_count old → 1 ≤ new
+-- a count behind one more isn't zero
+pub some_fresh : (old new : ℕ) → new ≡ next_count old → 1 ≤ new
 some_fresh old new is = omega arith
 
+-- where no call failed and then a read at a superblock's place did, the superblock could not be read
 super_unread : (old mid new : Seen) (slot : ℕ) → NoneFailed old.account mid.account → old.sure ≡ false
     → FailedAtPlace slot mid.account new.account (Err Failed) → SuperUnread old new slot
 super_unread old mid new slot none unsure failed = record {

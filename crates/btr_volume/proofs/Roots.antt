@@ -13,10 +13,12 @@ use Rattle.btr_volume.specs.Tree.{described, is_root_of, root_found}
 use Rattle.btr_volume.specs.declared.root.TreeRoot.{TreeRoot}
 use Rattle.std.specs.Prelude.{if◌then◌else◌}
 
+-- a test that fields must pass holds where there are fields, and they are these
 held : {T : Type 0} (b : Bool) (x y : T) → fields_if b x ≡ Ok y → (b ≡ true) × (x ≡ y)
 held true x y e = (refl, cc)
 held false x y e = absurd (cc e)
 
+-- a ROOT_ITEM of any size has more than 238 bytes
 sized : (n : ℕ) → is_root_size n ≡ true → 238 < n
 sized n e = grind arith
 
@@ -24,6 +26,7 @@ sized n e = grind arith
 pub root_long : (body : List ℕ) (root : RootItem) → root_item_of body ≡ Ok root → 238 < length body
 root_long body root e = sized (length body) (held (is_root_size (length body)) _ root e).0
 
+-- the level of a ROOT_ITEM is byte 238 of its body
 pub root_level : (body : List ℕ) (root : RootItem) → root_item_of body ≡ Ok root → slice_index body 238 ≡ root.level
 root_level body root e = ap (λ (r : RootItem). r.level) (held (is_root_size (length body)) _ root e).1
 
@@ -51,13 +54,16 @@ if_true true x y e = refl
 if_true false x y e = absurd (cc e)
 
 module _ (item : TreeItem) where
+  -- what the fields of a ROOT_ITEM, or their fault, come to for this item
   abbrev judged : Result RootItem ItemFault → Lookup (Option TreeRoot)
   judged fields = formed item fields (λ root. Return (Some (described item.key root)))
 
+  -- fields that describe a root come to this root
   judged_ok : (fields : Result RootItem ItemFault) (root : TreeRoot) → map_ok (described item.key) fields ≡ Ok root → judged fields ≡ Return (Some root)
   judged_ok (Ok x) root e = cc
   judged_ok (Err x) root e = absurd (cc e)
 
+  -- fields that break their form make the item's leaf malformed
   judged_err : (fields : Result RootItem ItemFault) (fault : ItemFault) → map_ok (described item.key) fields ≡ Err fault → judged fields
       ≡ Stop (fate.Malformed item.leaf)
   judged_err (Ok x) fault e = absurd (cc e)
@@ -68,6 +74,7 @@ module _ (item : TreeItem) where
       → root_found id (Some item) ≡ Return (Some root)
   found_ok id root is e = if_true (is_root_of id item.key) (judged (root_item_of item.body)) (Return None) is ∙ judged_ok (root_item_of item.body) root e
 
+  -- a ROOT_ITEM that was found for an id and breaks its form makes its leaf malformed
   pub found_err : (id : ℕ) (fault : ItemFault) → is_root_of id item.key ≡ true → map_ok (described item.key) (root_item_of item.body) ≡ Err fault
       → root_found id (Some item) ≡ Stop (fate.Malformed item.leaf)
   found_err id fault is e = if_true (is_root_of id item.key) (judged (root_item_of item.body)) (Return None) is ∙ judged_err (root_item_of item.body) fault e

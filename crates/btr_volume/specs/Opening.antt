@@ -50,23 +50,23 @@ ReadsSupers images (Err Memory) = ⊤
 ReadsSupers images (Err refusal) = supers_from 0 images ≡ Err refusal
 
 -- what opening may find too much of; the images are counted by who opens them
-abbrev pub IsCounted : Which → Type 0
-IsCounted limit.Images = ⊥
-IsCounted limit.Stripes = ⊤
-IsCounted limit.Chunks = ⊤
+abbrev pub IsLimited : Which → Type 0
+IsLimited limit.Images = ⊥
+IsLimited limit.Stripes = ⊤
+IsLimited limit.Chunks = ⊤
 
 -- what reading the superblocks did to the account
 abbrev pub SupersCause : {T : Type 0} → Seen → Seen → Result T OpenFault → Type 0
 SupersCause old new (Err (ImageFault slot)) = SuperUnread old new slot
 SupersCause old new (Err (Tree fault)) = ⊥
-SupersCause old new (Err (Limit which n)) = IsCounted which × NoneFailed old.account new.account
+SupersCause old new (Err (Limit which n)) = IsLimited which × NoneFailed old.account new.account
 SupersCause old new result = NoneFailed old.account new.account
 
 -- neither an image nor a tree is at fault, nor are the images too many
 abbrev pub NoneAtFault : {T : Type 0} → Result T OpenFault → Type 0
 NoneAtFault (Err (ImageFault slot)) = ⊥
 NoneAtFault (Err (Tree fault)) = ⊥
-NoneAtFault (Err (Limit which n)) = IsCounted which
+NoneAtFault (Err (Limit which n)) = IsLimited which
 NoneAtFault result = ⊤
 
 -- the chunks of a system array, or why there are none
@@ -159,7 +159,7 @@ abbrev pub TableCause : {T : Type 0} → Layout → Seen → Seen → Result T O
 TableCause layout old new (Ok chunks) = ⊤
 TableCause layout old new (Err (Tree fault)) = FaultCause layout old new fault
 TableCause layout old new (Err (BadChunk start)) = ⊤
-TableCause layout old new (Err (Limit which n)) = IsCounted which
+TableCause layout old new (Err (Limit which n)) = IsLimited which
 TableCause layout old new (Err Memory) = ⊤
 TableCause layout old new (Err refusal) = ⊥
 
@@ -188,7 +188,7 @@ OpenCause old new (Ok volume) = ⊤
 OpenCause old new (Err (ImageFault slot)) = SuperUnread old new slot
 OpenCause old new (Err (Tree fault)) = (begun : StartOf old) × FaultCause (array_layout begun.start) old new fault
 OpenCause old new (Err (BadChunk start)) = ⊤
-OpenCause old new (Err (Limit which n)) = IsCounted which
+OpenCause old new (Err (Limit which n)) = IsLimited which
 OpenCause old new (Err Memory) = ⊤
 OpenCause old new (Err (Diverged slot)) =
     NoneFailed old.account new.account

@@ -9,7 +9,7 @@ ghost use Rattle.btr_read.specs.Store.{free_count};
 ghost use Rattle.btr_run.specs.Answers.{answer_of};
 ghost use Rattle.btr_run.specs.Behind.{IfSteady};
 ghost use Rattle.btr_run.specs.Listed.{BesideSinks};
-ghost use Rattle.btr_run.specs.Outcomes.{Shows, showing};
+ghost use Rattle.btr_run.specs.Outcomes.{ShowsOutcome, showing};
 ghost use Rattle.btr_run.specs.Rows.{IsRowDone};
 ghost use Rattle.btr_run.specs.Queries.Trees.{AgreesOn, ShowsUpTo, call_answer, dump_row};
 ghost use Rattle.btr_run.specs.Queries.Trees.{trees_shown};
@@ -56,11 +56,11 @@ fn show<R: Rack, O: Out>(
     ensures cause { DumpStopCause volume.old.store.layout (R.seen rack.old) (R.seen rack.new) result }
     ensures grows { Grows (O.text out.old) (O.text out.new) }
     ensures content { IfSteady (R.seen rack.old).held (R.seen rack.old).account (R.seen rack.new).account (λ images.
-        Shows (λ outcome. outcome ≡ showing (trees_shown choice (fate images volume.old.store.layout) volume.old.sup))
+        ShowsOutcome (λ outcome. outcome ≡ showing (trees_shown choice (fate images volume.old.store.layout) volume.old.sup))
         (O.text out.old) (O.text out.new) (O.account out.old) (O.account out.new) (call_answer result)) }
     ensures agreed { IfSome (R.seen rack.old).held (λ images.
         Agreed images volume.old.store.layout → AgreesOn choice images volume.old.store.layout
-        → Shows (ShowsUpTo choice (fate images volume.old.store.layout) volume.old.sup)
+        → ShowsOutcome (ShowsUpTo choice (fate images volume.old.store.layout) volume.old.sup)
         (O.text out.old) (O.text out.new) (O.account out.old) (O.account out.new) (call_answer result)) }
 {
     match choice {

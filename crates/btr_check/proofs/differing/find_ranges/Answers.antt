@@ -1,7 +1,7 @@
 use Rattle.std.proofs.Common.{◌≡◌, ℕ, ◌-◌, ◌∙◌, None, IfSome, List, sym, subst}
 use Rattle.std.specs.Bool.{⊤}
 use Rattle.btr_check_differences.specs.Differing.{DifferAt}
-use Rattle.btr_walk.specs.declared.spot.Spot.{Spot}
+use Rattle.btr_walk.specs.declared.block_pointer.BlockPointer.{BlockPointer}
 use Rattle.btr_check.specs.Differing.{Differ}
 use Rattle.btr_check.specs.Running.{world}
 use Rattle.btr_check.proofs.AddingUp.{ran_read}
@@ -28,5 +28,5 @@ returns-in-Some-clause-ran g c =
     c.find_differences.ensures.read
     (λ B h.
     subst (λ (l : ℕ). IfSome r (λ ranges. DifferAt B l before.children.items after.children.items ranges.items)) c.in-Some.ensures.1
-    (subst (λ (l : List Spot). IfSome r (λ ranges. DifferAt B level l after.children.items ranges.items)) c.as_slice-old.ensures.value
-    (subst (λ (l : List Spot). IfSome r (λ ranges. DifferAt B level old l ranges.items)) c.as_slice-new.ensures.value h)))
+    (subst (λ (l : List BlockPointer). IfSome r (λ ranges. DifferAt B level l after.children.items ranges.items)) c.as_slice-old.ensures.value
+    (subst (λ (l : List BlockPointer). IfSome r (λ ranges. DifferAt B level old l ranges.items)) c.as_slice-new.ensures.value h)))

@@ -1,7 +1,7 @@
 use Rattle.std.proofs.Common.{◌≡◌, [], Some, fold, List, sym, ap, ◌∙◌}
 use Rattle.btr_check_space.specs.Items.{group_in, with_mark}
 use Rattle.btr_check_space.specs.declared.group.Group.{Group}
-use Rattle.btr_refs.specs.Extents.{Kept, nothing_kept, stored_step}
+use Rattle.btr_refs.specs.Extents.{KeptExtents, nothing_kept, stored_step}
 use Rattle.btr_tour.specs.Pairs.{both_step}
 use Rattle.btr_tour.specs.declared.both.Both.{Both}
 use Rattle.btr_check.specs.Counting.{Unless}
@@ -22,7 +22,7 @@ returns-in-None g c =
     let y = world (g.R.Rack.seen c.collect.new.rack) c.collect.new.vol in
     let listed = c.args.listed.now in
     let tree = c.last_of-extents.result in
-    let none : Both Kept (List Group) = record { first = c.new.result; second = c.new-2.result } in
+    let none : Both KeptExtents (List Group) = record { first = c.new.result; second = c.new-2.result } in
     let empty : none ≡ record { first = nothing_kept c.args.vol.now.sup.nodesize; second = [] } =
     λ i. record { first = (c.new.ensures ∙ ap nothing_kept c.from.ensures) i; second = c.new-2.ensures i } in
     record {
@@ -43,7 +43,7 @@ returns-in-Some g c =
     let listed = c.args.listed.now in
     let tree = c.last_of-extents.result in
     let groups = c.in-Some.groups in
-    let none : Both Kept (List Group) = record { first = c.new.result; second = c.new-2.result } in
+    let none : Both KeptExtents (List Group) = record { first = c.new.result; second = c.new-2.result } in
     let empty : none ≡ record { first = nothing_kept c.args.vol.now.sup.nodesize; second = [] } =
     λ i. record { first = (c.new.ensures ∙ ap nothing_kept c.from.ensures) i; second = c.new-2.ensures i } in
     let own : Some groups ≡ last_of 11 listed = sym c.in-Some.is ∙ c.last_of.ensures in

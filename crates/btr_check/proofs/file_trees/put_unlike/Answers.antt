@@ -94,14 +94,14 @@ returns-in_default g c =
     let x = world (g.R.Rack.seen c.args.rack.now) c.args.vol.now in
     let y = world (g.R.Rack.seen c.put_visited.new.rack) c.put_visited.new.vol in
     let tree = c.args.rooted.tree in
-    let spots = c.args.rooted.children.items in
+    let block_pointers = c.args.rooted.children.items in
     let old = c.args.kept.now in
     let new = c.put_visited.new.kept in
     let r = c.put_visited.result in
     record {
-      ran = ran_more (λ fs. AreSumRanges fs c.args.sums.now → AreKept fs c.pop.new.self.items → AreBelow fs tree spots
+      ran = ran_more (λ fs. AreSumRanges fs c.args.sums.now → AreKept fs c.pop.new.self.items → AreBelow fs tree block_pointers
           → Unless (λ u. TreatsAll fs (tree ∷ []) c.args.found.now c.put_visited.new.found old.subvolumes new.subvolumes new.sound.items) r)
-          (λ fs. AreSumRanges fs c.args.sums.now → AreKept fs old.sound.items → AreBelow fs tree spots
+          (λ fs. AreSumRanges fs c.args.sums.now → AreKept fs old.sound.items → AreBelow fs tree block_pointers
           → Unless (λ u. TreatsAll fs (tree ∷ []) c.args.found.now c.put_visited.new.found old.subvolumes new.subvolumes new.sound.items) r) x y r
           c.put_visited.ensures.ran
           (λ B h held kept below. h held

@@ -16,11 +16,11 @@ use Rattle.btr_check.proofs.opening.open_block.Goals as goal
 
 pub walk_good-opened-requires-clause-leaf : goal.walk_good-opened-requires-clause-leaf
 walk_good-opened-requires-clause-leaf g c = λ e.
-    (is_leaf_at c.args.level c.args.spot.now c.read_block.new.store c.in-Ok.loan c.bytes.result.now c.bytes.ensures.value c.in-Ok.ensures.good e).good
+    (is_leaf_at c.args.level c.args.pointer.now c.read_block.new.store c.in-Ok.loan c.bytes.result.now c.bytes.ensures.value c.in-Ok.ensures.good e).good
 
 pub walk_good-opened-requires-clause-inner : goal.walk_good-opened-requires-clause-inner
 walk_good-opened-requires-clause-inner g c = λ e.
-    (is_inner_at c.args.level c.args.spot.now c.read_block.new.store c.in-Ok.loan c.bytes.result.now c.bytes.ensures.value c.in-Ok.ensures.good e).good
+    (is_inner_at c.args.level c.args.pointer.now c.read_block.new.store c.in-Ok.loan c.bytes.result.now c.bytes.ensures.value c.in-Ok.ensures.good e).good
 
 pub returns-in-None-clause-ran : goal.returns-in-None-clause-ran
 returns-in-None-clause-ran g c =
@@ -39,9 +39,9 @@ returns-in-None-clause-ran g c =
       cause = cause_unread layout before now fault e.cause;
       quiet = tt;
       told = less_told e.content;
-      named = drawn layout (λ (B : Map). Reads is B c.args.level c.args.spot.now store (Err fault))
-          (λ (B : Map). FaultUnread (IsUnreadOf layout before now (Only (want_of c.args.level c.args.spot.now) (filesystem vol B))) fault)
-          (λ B reads. read_unread is B c.args.level c.args.spot.now store fault reads) e.content;
+      named = drawn layout (λ (B : Map). Reads is B c.args.level c.args.pointer.now store (Err fault))
+          (λ (B : Map). FaultUnread (IsUnreadOf layout before now (Only (want_of c.args.level c.args.pointer.now) (filesystem vol B))) fault)
+          (λ B reads. read_unread is B c.args.level c.args.pointer.now store fault reads) e.content;
     }
 
 pub returns-in-Ok-meet_fault-clause-ran : goal.returns-in-Ok-meet_fault-clause-ran
@@ -57,9 +57,9 @@ returns-in-Ok-meet_fault-clause-ran g c =
       ready = record { serves = e.serves; room = same_room vol.store store e.refused c.requires.ready.room };
       cause = tt;
       quiet = tt;
-      told = drawn layout (λ (B : Map). Reads is B c.args.level c.args.spot.now store (Err c.in-Err.fault))
-          (λ (B : Map). Opens (filesystem vol B) c.args.level c.args.spot.now c.args.walk.now c.meet_fault.new.self (Whole None))
-          (λ B reads. opens_fault (filesystem vol B) c.args.level c.args.spot.now c.args.walk.now c.meet_fault.new.self is store c.in-Err.fault
+      told = drawn layout (λ (B : Map). Reads is B c.args.level c.args.pointer.now store (Err c.in-Err.fault))
+          (λ (B : Map). Opens (filesystem vol B) c.args.level c.args.pointer.now c.args.walk.now c.meet_fault.new.self (Whole None))
+          (λ B reads. opens_fault (filesystem vol B) c.args.level c.args.pointer.now c.args.walk.now c.meet_fault.new.self is store c.in-Err.fault
           c.in-Some.left (sym c.of.ensures ∙ c.in-Some.is) reads c.in-Ok-meet_fault.ensures) e.content;
       named = less_told e.content;
     }
@@ -68,7 +68,7 @@ pub returns-in-Ok-opened-clause-ran : goal.returns-in-Ok-opened-clause-ran
 returns-in-Ok-opened-clause-ran g c =
     let vol = c.args.vol.now in
     let level = c.args.level in
-    let spot = c.args.spot.now in
+    let pointer = c.args.pointer.now in
     let layout = vol.store.layout in
     let is = unread_by layout (g.R.Rack.seen c.args.rack.now) (g.R.Rack.seen c.read_block.new.rack) in
     let store = c.read_block.new.store in
@@ -77,7 +77,7 @@ returns-in-Ok-opened-clause-ran g c =
     let e = c.in-Ok.ensures in
     let new = c.walk_good-opened.new.walk in
     let opened = c.in-Ok-opened.opened in
-    let loans = given_back vol.store store c.give.new.self (want_of level spot) loan e.lent c.give.ensures in
+    let loans = given_back vol.store store c.give.new.self (want_of level pointer) loan e.lent c.give.ensures in
     record {
       reads = e.reads;
       volume = record { sup = refl; store = loans };
@@ -87,11 +87,12 @@ returns-in-Ok-opened-clause-ran g c =
       };
       cause = tt;
       quiet = tt;
-      told = drawn layout (λ (B : Map). Reads is B level spot store (Ok loan)) (λ (B : Map). Opens (filesystem vol B) level spot c.args.walk.now new opened)
-          (λ B reads. opens_good (filesystem vol B) level spot c.args.walk.now new block opened
-          (block_is store loan block (λ (b : List ℕ). B (want_of level spot) ≡ Ok b) c.bytes.ensures.value reads)
-          (λ low. (is_leaf_at level spot store loan block c.bytes.ensures.value e.good low).is)
-          (λ high. (is_inner_at level spot store loan block c.bytes.ensures.value e.good high).is)
+      told = drawn layout (λ (B : Map). Reads is B level pointer store (Ok loan))
+          (λ (B : Map). Opens (filesystem vol B) level pointer c.args.walk.now new opened)
+          (λ B reads. opens_good (filesystem vol B) level pointer c.args.walk.now new block opened
+          (block_is store loan block (λ (b : List ℕ). B (want_of level pointer) ≡ Ok b) c.bytes.ensures.value reads)
+          (λ low. (is_leaf_at level pointer store loan block c.bytes.ensures.value e.good low).is)
+          (λ high. (is_inner_at level pointer store loan block c.bytes.ensures.value e.good high).is)
           c.in-Ok-opened.ensures.above c.in-Ok-opened.ensures.walked) e.content;
       named = less_told e.content;
     }
@@ -104,7 +105,7 @@ returns-in-Err-opened-clause-ran g c =
     let store = c.read_block.new.store in
     let loan = c.in-Ok.loan in
     let e = c.in-Ok.ensures in
-    let loans = given_back vol.store store c.give.new.self (want_of c.args.level c.args.spot.now) loan e.lent c.give.ensures in
+    let loans = given_back vol.store store c.give.new.self (want_of c.args.level c.args.pointer.now) loan e.lent c.give.ensures in
     record {
       reads = e.reads;
       volume = record { sup = refl; store = loans };
@@ -114,6 +115,6 @@ returns-in-Err-opened-clause-ran g c =
       };
       cause = tt;
       quiet = tt;
-      told = drawn layout (λ (B : Map). Reads is B c.args.level c.args.spot.now store (Ok loan)) (λ (B : Map). ⊤) (λ B reads. tt) e.content;
+      told = drawn layout (λ (B : Map). Reads is B c.args.level c.args.pointer.now store (Ok loan)) (λ (B : Map). ⊤) (λ B reads. tt) e.content;
       named = less_told e.content;
     }

@@ -2,7 +2,7 @@ use Rattle.std.proofs.Common.{◌≡◌, ap, ◌∙◌}
 use Rattle.btr_check_space.specs.Groups.{group_findings}
 use Rattle.btr_findings.proofs.Adding.{adds_as, adds_then}
 use Rattle.btr_refs.specs.Differences.{total_findings}
-use Rattle.btr_refs.specs.Extents.{Kept}
+use Rattle.btr_refs.specs.Extents.{KeptExtents}
 use Rattle.btr_check.proofs.references.put_collected.Goals as goal
 
 pub returns-clause-found : goal.returns-clause-found
@@ -19,4 +19,4 @@ returns-clause-found c =
     (adds_as (total_findings stored.extents stored.refs) (total_findings both.first.extents both.first.refs) a b
     (λ i. total_findings (is i).extents (is i).refs) c.in_ok-put_total_findings.ensures)
     (adds_as (group_findings chunks c.extents.result.now both.second bytes) (group_findings chunks both.first.extents both.second bytes) b d
-    (λ i. group_findings chunks ((c.extents.ensures ∙ ap (λ (k : Kept). k.extents) is) i) both.second bytes) c.in_ok-put_groups.ensures)
+    (λ i. group_findings chunks ((c.extents.ensures ∙ ap (λ (k : KeptExtents). k.extents) is) i) both.second bytes) c.in_ok-put_groups.ensures)

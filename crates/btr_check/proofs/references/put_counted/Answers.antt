@@ -2,7 +2,7 @@ use Rattle.std.proofs.Common.{◌≡◌, ◌++◌, true, Ok, Err, refl, ◌∙�
 use Rattle.btr_findings.specs.Findings.{Adds}
 use Rattle.btr_volume.specs.declared.stop.Stop.TheVariants.{Memory as NoMemory}
 use Rattle.btr_check.specs.Counting.{UsesCount}
-use Rattle.btr_check.specs.Passes.{AreExtents, IsCounted}
+use Rattle.btr_check.specs.Passes.{AreExtents, KnowsUses}
 use Rattle.btr_check.specs.Running.{world, filesystem, is_outside}
 use Rattle.btr_check.specs.Uses.{found_on_counts, found_on_uses}
 use Rattle.btr_check.proofs.Passes.{ran_no_memory}
@@ -22,7 +22,7 @@ returns-in_err-forward g c =
     record {
       ran = rw (stop_is c.from_residual.result c.from_residual.ensures.1)
           (ran_stop_within (λ fs. UsesCount fs.blocks begun.forward trees places begun.full (Err stop))
-          (λ fs. IsCounted trees c.args.places.items begun fs → is_outside stop ≡ true) x y stop c.in_err-forward.ensures.ran
+          (λ fs. KnowsUses trees c.args.places.items begun fs → is_outside stop ≡ true) x y stop c.in_err-forward.ensures.ran
           (λ B h known. uses_stop_here (filesystem c.args.vol.now B) trees places begun stop (c.as_slice.ensures.value ∙ known.reached) known.kept h)
           (λ B want w known.
           let fs = filesystem c.args.vol.now B in
@@ -42,7 +42,7 @@ returns-in-Ok g c =
     let b = c.put_uses.new.found in
     record {
       ran = ran_value (λ fs. UsesCount fs.blocks begun.forward trees places begun.full (Ok forward))
-          (λ fs. IsCounted trees c.args.places.items begun fs → AreExtents extents.items fs
+          (λ fs. KnowsUses trees c.args.places.items begun fs → AreExtents extents.items fs
           × Adds (found_on_counts fs ++ found_on_uses fs) a b) x y forward extents c.in_ok-forward.ensures.ran
           (λ B h known.
           let fs = filesystem c.args.vol.now B in
@@ -59,6 +59,6 @@ returns g c =
     let begun = c.args.begun in
     record {
       ran = ran_no_memory (λ fs. UsesCount fs.blocks begun.forward c.args.trees.now c.as_slice.result.now begun.full (Ok c.in_ok-forward.forward))
-          (λ fs. IsCounted c.args.trees.now c.args.places.items begun fs → is_outside NoMemory ≡ true) x y c.in_ok-forward.forward c.in_ok-forward.ensures.ran
+          (λ fs. KnowsUses c.args.trees.now c.args.places.items begun fs → is_outside NoMemory ≡ true) x y c.in_ok-forward.forward c.in_ok-forward.ensures.ran
           (λ B known. refl);
     }

@@ -2,7 +2,7 @@ use Rattle.std.proofs.Common.{◌≡◌, ◌++◌, true, ◌∙◌}
 use Rattle.btr_findings.specs.Findings.{Adds}
 use Rattle.btr_check.specs.ExtentTree.{IsBegun}
 use Rattle.btr_check.specs.Families.{found_on_groups}
-use Rattle.btr_check.specs.Passes.{AreExtents, IsCounted, IsWalked, ListExtents, ListsSound, AddsFindingsAnd}
+use Rattle.btr_check.specs.Passes.{AreExtents, KnowsUses, IsWalked, ListExtents, ListsSound, AddsFindingsAnd}
 use Rattle.btr_check.specs.Running.{world, filesystem, is_outside}
 use Rattle.btr_check.specs.Uses.{found_on_counts, found_on_totals, found_on_uses, reference_findings}
 use Rattle.btr_check.proofs.Passes.{unless_more}
@@ -38,7 +38,7 @@ returns g c =
     let three = c.put_counted.new.found in
     record {
       ran = ran_then (λ fs. ListsSound listed fs → IsBegun fs begun × Adds (found_on_totals fs ++ found_on_groups fs) one two)
-          (AddsFindingsAnd (IsCounted trees places.items begun) ListExtents (λ fs. found_on_counts fs ++ found_on_uses fs) two three c.put_counted.result)
+          (AddsFindingsAnd (KnowsUses trees places.items begun) ListExtents (λ fs. found_on_counts fs ++ found_on_uses fs) two three c.put_counted.result)
           (AddsFindingsAnd (IsWalked listed trees c.args.walk) ListExtents (λ fs. reference_findings fs ++ found_on_groups fs) one three
           c.put_counted.result) x y z begun
           c.put_counted.result c.in_ok-begun.ensures.ran c.put_counted.ensures.ran

@@ -1,6 +1,6 @@
 use Rattle.std.proofs.Common.{◌≡◌, true, refl, sym, subst}
 use Rattle.std.specs.Bool.{⊤}
-use Rattle.btr_walk.specs.Le.{root_spot}
+use Rattle.btr_walk.specs.Le.{root_pointer}
 use Rattle.btr_check.specs.Passing.{Opens}
 use Rattle.btr_check.specs.Running.{world, filesystem, is_outside}
 use Rattle.btr_check.specs.SoundTrees.{AreBelow}
@@ -19,7 +19,7 @@ returns-in_err-open_block-clause-ran g c =
     (world (g.R.Rack.seen c.args.rack.now) c.args.vol.now)
     (world (g.R.Rack.seen c.open_block.new.rack) c.open_block.new.vol) c.in_err-open_block.field-0.0 c.in_err-open_block.ensures.ran
     (λ B h. c.in_err-open_block.ensures.outside)
-    (λ B want w. here_wanted (filesystem c.args.vol.now B) c.args.tree.now.place.level (root_spot c.args.tree.now.place) want w))
+    (λ B want w. here_wanted (filesystem c.args.vol.now B) c.args.tree.now.place.level (root_pointer c.args.tree.now.place) want w))
 
 pub returns-clause-ran : goal.returns-clause-ran
 returns-clause-ran g c =
@@ -30,7 +30,7 @@ returns-clause-ran g c =
     let new = c.open_block.new.walk in
     let rooted : RootedTree = record { tree = tree; children = children } in
     let are : AreChildren opened children.items = subst (λ o. AreChildren o children.items) (sym c.in-Children.is) refl in
-    ran_value {A = Opened} {C = RootedTree} (λ fs. Opens fs tree.place.level (root_spot tree.place) old new opened) (λ fs. AreBelow fs tree children.items)
+    ran_value {A = Opened} {C = RootedTree} (λ fs. Opens fs tree.place.level (root_pointer tree.place) old new opened) (λ fs. AreBelow fs tree children.items)
     (world (g.R.Rack.seen c.args.rack.now) c.args.vol.now) (world (g.R.Rack.seen c.open_block.new.rack) c.open_block.new.vol) opened rooted
     c.in_ok-open_block.ensures.ran
     (λ B h. opens_below (filesystem c.args.vol.now B) tree old new opened children.items h are)

@@ -16,9 +16,9 @@ abbrev pub decreases-walk_children : goal.decreases-walk_children
 decreases-walk_children g l = 3 * l.level + 2
 
 -- the children so far were walked
-abbrev pub invariant-walk_children-loop-spot : goal.invariant-walk_children-loop-spot
-invariant-walk_children-loop-spot g l = record {
-  ran : Ran {A = Option Edges} nothing (λ fs. (addr : ℕ) → Walks fs (children_marks fs addr l.level (take l.spot-index l.spots)) l.fn.walk l.walk
+abbrev pub invariant-walk_children-loop-pointer : goal.invariant-walk_children-loop-pointer
+invariant-walk_children-loop-pointer g l = record {
+  ran : Ran {A = Option Edges} nothing (λ fs. (addr : ℕ) → Walks fs (children_marks fs addr l.level (take l.pointer-index l.block_pointers)) l.fn.walk l.walk
       l.fn.subtrees.known.entries l.subtrees.known.entries (Ok l.edges)) (world (g.R.Rack.seen l.fn.rack) l.fn.vol)
       (world (g.R.Rack.seen l.rack) l.vol) (Ok l.edges);
 }

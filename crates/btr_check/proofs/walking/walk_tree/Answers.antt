@@ -1,7 +1,7 @@
 use Rattle.std.proofs.Common.{[], ◌∷◌, ◌++◌, List, Ok, Option, ap}
 use Rattle.std.specs.Bool.{⊤}
 use Rattle.btr_volume.specs.declared.root.TreeRoot.{TreeRoot}
-use Rattle.btr_walk.specs.Le.{root_spot}
+use Rattle.btr_walk.specs.Le.{root_pointer}
 use Rattle.btr_check.specs.declared.subtrees.Edges.{Edges}
 use Rattle.btr_check.specs.Passing.{Knows, Walks, subtree_marks}
 use Rattle.btr_check.specs.Running.{world, filesystem}
@@ -21,7 +21,7 @@ returns g c =
     record {
       outside = tt;
       ran = ran_value {C = Unit {0}}
-          (λ fs. Walks fs (subtree_marks fs tree.place.level (root_spot tree.place)) c.begin.new.self c.walk_block.new.walk known after
+          (λ fs. Walks fs (subtree_marks fs tree.place.level (root_pointer tree.place)) c.begin.new.self c.walk_block.new.walk known after
           (Ok c.in_ok-walk_block.field-0))
           (λ fs. (before : List TreeRoot) → HasWalked fs before c.args.walk.now → Knows fs c.args.walk.now first
           → HasWalked fs (before ++ tree ∷ []) c.walk_block.new.walk × Knows fs c.walk_block.new.walk after) x y c.in_ok-walk_block.field-0 tt

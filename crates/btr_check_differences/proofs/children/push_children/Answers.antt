@@ -1,6 +1,6 @@
 use Rattle.std.proofs.Common.{◌++◌, ◌∙◌, ap, sym, arith, append-nil, filter}
 use Rattle.btr_base.specs.Key.{last_key}
-use Rattle.btr_tour.specs.Tour.{first_key, child_spots, meets_keys}
+use Rattle.btr_tour.specs.Tour.{first_key, child_pointers, meets_keys}
 use Rattle.btr_check_differences.proofs.Nodes.{child_more, children_all}
 use Rattle.btr_check_differences.proofs.children.push_children.Goals as goal
 
@@ -18,4 +18,4 @@ returns c =
     let test = meets_keys first_key last_key in
     c.loop-at.invariant
     ∙ ap (λ l. c.args.children.now.items ++ l) (children_all inner c.args.up c.loop-at.at (omega (arith, c.count-at-end.ensures.all)))
-    ∙ ap (λ ps. c.args.children.now.items ++ filter test (child_spots ps c.args.up)) c.of-inner.ensures
+    ∙ ap (λ ps. c.args.children.now.items ++ filter test (child_pointers ps c.args.up)) c.of-inner.ensures

@@ -1,5 +1,5 @@
 use Rattle.std.proofs.Common.{◌-◌, ◌+◌, sym, ap, ◌∙◌, None, OnSome, drop, take, subst}
-use Rattle.btr_walk.specs.declared.spot.Spot.{Spot}
+use Rattle.btr_walk.specs.declared.block_pointer.BlockPointer.{BlockPointer}
 use Rattle.btr_check_differences.specs.Differing.{AreBelow, DifferAt, items_below}
 use Rattle.btr_check_differences.specs.Ranges.{AreIn, TakesAll}
 use Rattle.btr_check_differences.specs.Reading.{world}
@@ -21,7 +21,7 @@ compare-loop-at-preserved g t c =
     let before = c.args.before.now in
     let after = c.args.after.now in
     let at = c.in-Some.at in
-    let none : Spot = record { addr = 0; generation = 0; first = None; up = None } in
+    let none : BlockPointer = record { addr = 0; generation = 0; first = None; up = None } in
     let old = l.found.ranges.items in
     let new = c.compare_own.new.found.ranges.items in
     let own = c.in-Some-compare_own.ensures in

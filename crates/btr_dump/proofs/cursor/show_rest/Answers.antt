@@ -40,7 +40,7 @@ show_next-requires-clause-room g c = c.loop.invariant.room
 pub loop-smaller : goal.loop-smaller
 loop-smaller g c =
     subst (λ r. TurnRankFalls (g.C.Cursor.rank c.loop.cursor) (g.C.Cursor.rank c.show_next.new.self) (Ok r)) c.if-not-branch.false
-    c.in_ok-show_next.ensures.nears
+    c.in_ok-show_next.ensures.rank_falls
 
 pub loop-preserved : goal.loop-preserved
 loop-preserved g c =

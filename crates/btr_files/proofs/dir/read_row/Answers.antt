@@ -7,7 +7,7 @@ use Rattle.btr_walk.specs.ScanEnds.{IsNextOn, NextRankFalls}
 use Rattle.btr_walk.specs.Showing.{item_of}
 use Rattle.btr_walk.proofs.Joined.{drawn}
 use Rattle.btr_files.specs.Listing.{IsNextRow}
-use Rattle.btr_files.proofs.Rows.{next_some, next_none, next_fault, row_cause, row_nears}
+use Rattle.btr_files.proofs.Rows.{next_some, next_none, next_fault, row_cause, row_rank_falls}
 use Rattle.btr_files.proofs.dir.read_row.Goals as goal
 
 pub returns-in_err-next-clause-content : goal.returns-in_err-next-clause-content
@@ -49,9 +49,9 @@ returns-in-Some-clause-content g c =
     (subst (λ r. onwards r B) (c.in_ok-next.was ∙ ap Ok c.in-Some.is) h))
     c.next.follows.holds-at-none.content
 
-pub returns-in-Some-clause-nears : goal.returns-in-Some-clause-nears
-returns-in-Some-clause-nears g c = row_nears c.args.scan.now c.next.new.scan c.row_found.result
-    (subst (NextRankFalls c.args.scan.now c.next.new.scan) (c.in_ok-next.was ∙ ap Ok c.in-Some.is) c.next.ensures.nears)
+pub returns-in-Some-clause-rank_falls : goal.returns-in-Some-clause-rank_falls
+returns-in-Some-clause-rank_falls g c = row_rank_falls c.args.scan.now c.next.new.scan c.row_found.result
+    (subst (NextRankFalls c.args.scan.now c.next.new.scan) (c.in_ok-next.was ∙ ap Ok c.in-Some.is) c.next.ensures.rank_falls)
 
 pub returns-in-Some-clause-cause : goal.returns-in-Some-clause-cause
 returns-in-Some-clause-cause g c = row_cause c.args.store.now.layout (g.R.Rack.seen c.args.rack.now) (g.R.Rack.seen c.next.new.rack)

@@ -43,7 +43,7 @@ returns-in-Gap g c =
         after = tt;
         reads = s.reads;
         same = refl {a = file.source};
-        nears = nearer file p' given on;
+        rank_falls = nearer file p' given on;
         some = subst IsShown c.in-Gap.is on.shown;
         cause = tt;
       },
@@ -78,7 +78,7 @@ returns-in-Some g c =
         after = tt;
         reads = s.reads;
         same = refl {a = file.source};
-        nears = nearer file p' given on;
+        rank_falls = nearer file p' given on;
         some = c.piece_in.ensures.some;
         cause = tt;
       },
@@ -100,7 +100,7 @@ returns-in-Err g c =
         after = tt;
         reads = s.reads;
         same = refl {a = c.args.file.now.source};
-        nears = s.on;
+        rank_falls = s.on;
         some = tt;
         cause = subst (λ (l : Layout). HasCause {A = Option Lending} l a b (Err c.in-Err.fault))
             (layout_is c.args.vol.now c.next_step.new.vol c.give_back.new.store c.args.file.now c.take-loan.result c.take-loan.ensures.value
@@ -133,7 +133,7 @@ returns-in-Ok-None g c =
         after = tt;
         reads = s.reads;
         same = refl {a = file.source};
-        nears = omega (arith, full);
+        rank_falls = omega (arith, full);
         some = tt;
         cause = tt;
       },

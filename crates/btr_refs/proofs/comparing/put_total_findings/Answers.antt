@@ -4,7 +4,7 @@ use Rattle.btr_findings.specs.Findings.{Adds, PutsRows, has}
 use Rattle.btr_findings.specs.declared.extent.Extent.{Extent}
 use Rattle.btr_refs.specs.Counts.{RefCounts}
 use Rattle.btr_refs.specs.Differences.{PutsAlone, ref_total, total_findings}
-use Rattle.btr_refs.specs.Extents.{Kept}
+use Rattle.btr_refs.specs.Extents.{KeptExtents}
 use Rattle.btr_refs.specs.Listed.{entries_of}
 use Rattle.btr_refs.proofs.Rows.{total_rows}
 use Rattle.btr_refs.proofs.comparing.put_total_findings.Goals as goal
@@ -17,7 +17,7 @@ returns c =
     let a = c.args.found.now in
     let b = c.put_ref_totals.new.found in
     let d = c.put_ref_alone.new.found in
-    let same : stored.extents ≡ extents = sym (ap (λ (k : Kept). k.extents) c.stored.view_is) in
+    let same : stored.extents ≡ extents = sym (ap (λ (k : KeptExtents). k.extents) c.stored.view_is) in
     let first : PutsRows (ref_total (entries_of refs)) extents a b =
     subst (λ l. PutsRows (ref_total (entries_of refs)) l a b) (c.extents.ensures ∙ same) c.in_ok-put_ref_totals.ensures in
     on_ok c.put_ref_alone.result (PutsAlone refs extents b d) (Adds (total_findings stored.extents stored.refs) a d)

@@ -84,7 +84,7 @@ loop-owner-preserved g c =
     let is = unread_by first.layout (g.R.Rack.seen c.args.rack.now) (g.R.Rack.seen c.next_turn.new.rack) in
     let was = unread_by f.store.layout (g.R.Rack.seen f.rack) (g.R.Rack.seen c.next_turn.new.rack) in
     let s = c.in_ok-next_turn.ensures in
-    let nears = subst (λ (o : Turn). TurnRankFalls f.scan scan' (Ok o)) c.in-Other.is s.nears in
+    let rank_falls = subst (λ (o : Turn). TurnRankFalls f.scan scan' (Ok o)) c.in-Other.is s.rank_falls in
     record {
       ready = s.ready;
       reads = reads_more f.invariant.reads s.reads;
@@ -93,7 +93,7 @@ loop-owner-preserved g c =
       layout = same_layout f.store new _ _ s.others ∙ f.invariant.layout;
       lo = s.lo ∙ f.invariant.lo;
       hi = s.hi ∙ f.invariant.hi;
-      nearer = omega (arith, nears, f.invariant.nearer);
+      nearer = omega (arith, rank_falls, f.invariant.nearer);
       tells = joined (λ B. Gone addr tree B first scan met f.store f.scan f.met)
           (λ B. IsTurn addr tree was B f.store new f.scan scan' f.met met' (Ok c.in_ok-next_turn.field-0))
           (λ B. Gone addr tree B first scan met new scan' met') f.invariant.layout
@@ -117,14 +117,14 @@ returns-in-Owner g c =
     let is = unread_by first.layout (g.R.Rack.seen c.args.rack.now) (g.R.Rack.seen c.next_turn.new.rack) in
     let was = unread_by f.store.layout (g.R.Rack.seen f.rack) (g.R.Rack.seen c.next_turn.new.rack) in
     let s = c.in_ok-next_turn.ensures in
-    let nears = subst (λ (o : Turn). TurnRankFalls f.scan scan' (Ok o)) c.in-Owner.is s.nears in
+    let rank_falls = subst (λ (o : Turn). TurnRankFalls f.scan scan' (Ok o)) c.in-Owner.is s.rank_falls in
     record {
       ready = s.ready;
       reads = reads_more f.invariant.reads s.reads;
       others = same_then {c = without_leaf new scan'} f.invariant.others s.others;
       lo = s.lo ∙ f.invariant.lo;
       hi = s.hi ∙ f.invariant.hi;
-      nears = omega (arith, nears, f.invariant.nearer);
+      rank_falls = omega (arith, rank_falls, f.invariant.nearer);
       cause = tt;
       content = joined (λ B. Gone addr tree B first scan met f.store f.scan f.met)
           (λ B. IsTurn addr tree was B f.store new f.scan scan' f.met met' (Ok c.in_ok-next_turn.field-0))

@@ -12,8 +12,9 @@ use Rattle.btr_run.specs.Faults.{stop_answer}
 use Rattle.btr_run.specs.Outcomes.{showing}
 use Rattle.btr_run.specs.declared.plan.Command.TheVariants.{Check}
 use Rattle.btr_run.proofs.Agreements.{listed_agreed, stopped_agreed, unopened_agreed}
-use Rattle.btr_run.proofs.Checks.{listed, listed_behind, listed_effect, listed_told, stop_calm, stopped_behind, stopped_effect, stopped_told}
-use Rattle.btr_run.proofs.Coming.{answer_gives, shows_also, when_told}
+use Rattle.btr_run.proofs.Checks.{listed, listed_behind, listed_effect, listed_told, stop_no_fault, stopped_behind, stopped_effect, stopped_told}
+use Rattle.btr_run.proofs.Coming.{answer_gives, shows_also}
+use Rattle.btr_read.proofs.Fetched.{map_some}
 use Rattle.btr_run.proofs.TreesShown.{steadily, unopened_effect, unopened_told, unopened_behind}
 use Rattle.btr_run.proofs.Filesystems.{opened_layout}
 use Rattle.btr_run.proofs.Performing.{only_reads}
@@ -32,7 +33,7 @@ returns-in_err-volume g c =
       effect = unopened_effect answer (answer_of c.from_residual.result) (answer_gives c.from_residual.result answer c.from_residual.ensures.1)
           c.in_err-volume.ensures.refusal (check_in c.args.read_data) (λ images a. refl) old.account new.account old.held
           (g.O.Out.text c.args.out.now) (g.O.Out.account c.args.out.now) c.in_err-volume.ensures.content;
-      agreed = when_told old.held _ _ (λ images shows agreed.
+      agreed = map_some old.held _ _ (λ images shows agreed.
           shows_also (IsOrUnopened images (check_outcome c.args.read_data images)) (IsCheckedOrUnread c.args.read_data images) text text account account result
           (λ outcome o. inl o) (shows agreed))
           (unopened_agreed (check_outcome c.args.read_data) (λ images a e. ap (check_in c.args.read_data images) e) old new answer result
@@ -61,7 +62,7 @@ returns-in_err-findings g c =
           (steadily volume.store.layout mid new (λ B. is_outside end ≡ false → refusal
           (record { sup = volume.sup; chunks = volume.store.layout.chunks; blocks = B }) ≡ Some end) ran.told);
       agreed = stopped_agreed c.args.read_data old mid new c.in_ok-volume.ensures.reads volume c.in_ok-volume.ensures.opened end ran.quiet result gives
-          (stop_calm end ran.quiet) (g.O.Out.text c.args.out.now) (g.O.Out.account c.args.out.now) ran.told ran.named;
+          (stop_no_fault end ran.quiet) (g.O.Out.text c.args.out.now) (g.O.Out.account c.args.out.now) ran.told ran.named;
       told = stopped_told c.args.read_data old mid new c.in_ok-volume.ensures.reads ran.reads volume.store.layout end ran.quiet ran.cause result gives
           (g.O.Out.text c.args.out.now) (g.O.Out.account c.args.out.now);
       cause = only_reads (Check c.args.read_data) old new result

@@ -7,7 +7,8 @@ use Rattle.btr_rack.specs.declared.error.RackError.TheVariants.{Failed, Memory}
 use Rattle.btr_run.specs.Images.{IsMissing}
 use Rattle.btr_run.proofs.Openings.{open_more, slot_count, slot_names, names_before, opened_more, all_open, so_far_opened, refused_opened, missing_name}
 use Rattle.btr_run.proofs.Openings.{unopened}
-use Rattle.btr_run.proofs.Causing.{none_failed_twice, name_at}
+use Rattle.btr_run.proofs.Causing.{name_at}
+use Rattle.btr_volume.proofs.Readings.{none_failed_twice}
 use Rattle.btr_run.proofs.opening.open_images.Goals as goal
 
 omega_within : (xs : List (String Global)) (i : ℕ) → i < length xs → i < length (map string_bytes xs)

@@ -7,7 +7,7 @@ use Rattle.btr_run.specs.Outcomes.{refused}
 use Rattle.btr_run.specs.Repaired.{Scrubs}
 use Rattle.btr_run.specs.Scrubbed.{scrub_in, scrub_outcome}
 use Rattle.btr_run.proofs.Agreements.{unopened_to}
-use Rattle.btr_run.proofs.Coming.{when_told}
+use Rattle.btr_read.proofs.Fetched.{map_some}
 use Rattle.btr_run.proofs.Mended.{scrubs_agreed}
 use Rattle.btr_run.proofs.Mendings.{not_opened, outcome_by}
 use Rattle.btr_run.proofs.ScrubsDone.{scrubs_so}
@@ -47,7 +47,7 @@ returns-in_err-volume-clause-agreed g c =
     let new = g.R.Rack.seen c.open_filesystem.new.rack in
     let p = err_from_is_err_and c.from_residual.result c.from_residual.ensures.1 in
     rw p.1 (subst (λ a. IfSome old.held (λ images. AreAgreed images → ScrubsAgreed c.args.write images (Err a))) (sym p.2)
-    (when_told old.held (λ images. AreAgreed images → IsOrUnopened images (scrub_outcome c.args.write images) (refused c.in_err-volume.field-0.0))
+    (map_some old.held (λ images. AreAgreed images → IsOrUnopened images (scrub_outcome c.args.write images) (refused c.in_err-volume.field-0.0))
     (λ images. AreAgreed images → ScrubsAgreed c.args.write images (Err c.in_err-volume.field-0.0)) (λ images so agreed. inl (so agreed))
     (unopened_to (scrub_outcome c.args.write) (λ images a e. outcome_by c.args.write images
     ∙ ap (scrub_in c.args.write images) e) old new c.in_err-volume.field-0.0

@@ -1,12 +1,12 @@
 use Rattle.std.proofs.Common.{ap, sym, subst, ◌∙◌}
 use Rattle.std.specs.FinMap.{get, remove}
 use Rattle.std.specs.Option.{option_map}
-use Rattle.btr_check_names.specs.Pairs.{AreApart, Half, fits, joined}
+use Rattle.btr_check_names.specs.Pairs.{WaitOnce, Half, fits, joined}
 use Rattle.btr_check_names.proofs.Joining.{apart_after, apart_empty, found_first, found_then, gone_from_list, had_one, let_go_of_both}
 use Rattle.btr_check_names.proofs.waiting.Waiting.meet.Goals as goal
 
 pub invariant_of-self : goal.invariant_of-self
-invariant_of-self c = let map = c.self.inside.others.entries in subst (λ l. AreApart l map) (sym c.in_err-fit.ensures.err) (apart_empty map)
+invariant_of-self c = let map = c.self.inside.others.entries in subst (λ l. WaitOnce l map) (sym c.in_err-fit.ensures.err) (apart_empty map)
 
 pub invariant_of-self-in-Some : goal.invariant_of-self-in-Some
 invariant_of-self-in-Some c =
@@ -14,7 +14,7 @@ invariant_of-self-in-Some c =
     let map = c.self.inside.others.entries in
     let k = c.args.claim.now in
     let had = had_one list k (λ (h : Half). fits h c.args.is_first c.args.name.now) c.in-Some.fit (sym c.in-Some.is ∙ c.in_ok-fit.ensures.found) in
-    subst (λ l. AreApart l map) (sym c.in_ok-fit.ensures.left) (apart_after list map map k
+    subst (λ l. WaitOnce l map) (sym c.in_ok-fit.ensures.left) (apart_after list map map k
     (gone_from_list list map k had.0 c.self.invariant had.1) c.self.invariant)
 
 pub returns-in-Some-clause-found : goal.returns-in-Some-clause-found
@@ -36,7 +36,7 @@ returns-in-Some-clause-left c =
 pub invariant_of-self-2 : goal.invariant_of-self-2
 invariant_of-self-2 c =
     let new = c.meet_in_map.new.map.entries in
-    subst (λ l. AreApart l new) (sym c.in_ok-fit.ensures.left)
+    subst (λ l. WaitOnce l new) (sym c.in_ok-fit.ensures.left)
     (apart_after c.self.inside.ascending c.self.inside.others.entries new c.args.claim.now c.meet_in_map.ensures.left c.self.invariant)
 
 pub returns-clause-found : goal.returns-clause-found

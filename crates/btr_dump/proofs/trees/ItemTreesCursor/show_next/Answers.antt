@@ -7,7 +7,7 @@ use Rattle.btr_walk.specs.Going.{IsOn}
 use Rattle.btr_walk.specs.Reading.{unread_by}
 use Rattle.btr_walk.specs.ScanEnds.{left_of}
 use Rattle.btr_dump.specs.Pieces.{item_root, item_trees, tree_if, tree_shown}
-use Rattle.btr_dump.specs.Showing.{GoesOn, Turns, ShowsText}
+use Rattle.btr_dump.specs.Showing.{ShowsMore, Turns, ShowsText}
 use Rattle.btr_dump.specs.Trees.{NextItemBy}
 use Rattle.btr_walk.proofs.Staying.{room_beside, room_same}
 use Rattle.btr_dump.proofs.Loops.{turn_halts, turn_ends}
@@ -140,7 +140,7 @@ returns-in_ok-show_tree-in-Ok-Tree-clause-content g c =
     → NextItemBy (unread_by old.layout before between) B seen old mid scan next (Ok c.in-Ok-Tree.field-0))
     (λ B. ShowsText {A = Unit {0}} later [] (exec B (tree_shown kind root)) text text' waited waits (Ok tt))
     (λ B. (seen : List Want) → IsOn scan.lo scan.hi B seen scan.place
-    → GoesOn (λ ws. IsOn next.lo next.hi B ws next.place) (exec B (item_trees kind (left_of B old scan)))
+    → ShowsMore (λ ws. IsOn next.lo next.hi B ws next.place) (exec B (item_trees kind (left_of B old scan)))
     (exec B (item_trees kind (left_of B new next))) seen text text' waited waits) same
     (λ B h w seen on.
     let given = subst (λ r. NextItemBy (unread_by old.layout before between) B seen old mid scan next (Ok r)) c.in-Ok-Tree.field-0-is (h seen on) in

@@ -5,7 +5,7 @@ use Rattle.btr_walk.specs.declared.fault.TreeFault.{TreeFault}
 use Rattle.btr_walk.proofs.Joined.{drawn}
 use Rattle.btr_files.specs.declared.dir_row.DirRow.{DirRow}
 use Rattle.btr_files.specs.Listing.{IsNextRow, IsNextEntry, KeepsName, RowRankFalls}
-use Rattle.btr_files.proofs.Rows.{ready_is, free_is, same_through, dir_some, dir_ends, dir_fault, dir_nears}
+use Rattle.btr_files.proofs.Rows.{ready_is, free_is, same_through, dir_some, dir_ends, dir_fault, dir_rank_falls}
 use Rattle.btr_files.proofs.dir.Dir.next.Goals as goal
 
 pub read_row-requires-clause-ready : goal.read_row-requires-clause-ready
@@ -44,10 +44,11 @@ returns-in-Ok-Some-clause-volume g c = record {
       c.scan-scan.ensures c.read_row.ensures.others c.rest-after.ensures.back;
 }
 
-pub returns-in-Ok-Some-clause-nears : goal.returns-in-Ok-Some-clause-nears
-returns-in-Ok-Some-clause-nears g c =
-    dir_nears c.args.self.now c.scan-scan.result c.read_row.new.scan c.read_row.new.store c.rest-after.result c.scan-scan.ensures c.rest-after.ensures.rests
-    (subst (RowRankFalls c.scan-scan.result c.read_row.new.scan) (c.in-Ok-Some.is ∙ ap Ok c.in-Ok-Some.field-0-is) c.read_row.ensures.nears)
+pub returns-in-Ok-Some-clause-rank_falls : goal.returns-in-Ok-Some-clause-rank_falls
+returns-in-Ok-Some-clause-rank_falls g c =
+    dir_rank_falls c.args.self.now c.scan-scan.result c.read_row.new.scan c.read_row.new.store c.rest-after.result c.scan-scan.ensures
+    c.rest-after.ensures.rests
+    (subst (RowRankFalls c.scan-scan.result c.read_row.new.scan) (c.in-Ok-Some.is ∙ ap Ok c.in-Ok-Some.field-0-is) c.read_row.ensures.rank_falls)
 
 pub returns-in-Ok-None-clause-content : goal.returns-in-Ok-None-clause-content
 returns-in-Ok-None-clause-content g c =

@@ -7,7 +7,7 @@ use Rattle.std.specs.List.Sorted.{IsSortedByKey, IsStrictlySortedBy}
 use Rattle.btr_findings.specs.declared.finding.Finding.{Finding}
 use Rattle.btr_findings.specs.declared.sector_run.SectorRun.{SectorRun}
 use Rattle.btr_findings.specs.Findings.{finding_cmp, in_order, is_one_of, is_same}
-use Rattle.btr_findings.specs.Runs.{AreListed, IsKept, each_once, no_run, runs_left}
+use Rattle.btr_findings.specs.Runs.{AreListed, IsSoundRun, each_once, no_run, runs_left}
 use Rattle.btr_findings.specs.Sectors.{runs_findings}
 use Rattle.btr_findings.proofs.Onces.{key_of, once_same, once_sorted, once_within, same_permuted}
 use Rattle.btr_findings.proofs.Sets.{same_findings}
@@ -15,8 +15,8 @@ use Rattle.btr_findings.proofs.Taking.{none_done}
 use Rattle.btr_findings.proofs.findings.Findings.of.Goals as goal
 
 pub take_once-requires : goal.take_once-requires
-take_once-requires c = subst (All IsKept) (sym c.deref_mut.ensures.value)
-    (All-permutation IsKept c.args.runs.items c.sort_unstable_by_key.new.self.items c.sort_unstable_by_key.ensures.permutation c.requires.runs)
+take_once-requires c = subst (All IsSoundRun) (sym c.deref_mut.ensures.value)
+    (All-permutation IsSoundRun c.args.runs.items c.sort_unstable_by_key.new.self.items c.sort_unstable_by_key.ensures.permutation c.requires.runs)
 
 -- the runs as they are kept
 kept_is : (c : goal.In_ok-are_few) → take c.sort_unstable_by_key.new.self.len
@@ -35,7 +35,7 @@ invariant_of-result c =
     let single = c.args.single.items in
     let sorted = c.sort_unstable_by_key.new.self.items in
     let once = each_once no_run sorted in
-    let kept : All IsKept sorted = All-permutation IsKept c.args.runs.items sorted c.sort_unstable_by_key.ensures.permutation c.requires.runs in
+    let kept : All IsSoundRun sorted = All-permutation IsSoundRun c.args.runs.items sorted c.sort_unstable_by_key.ensures.permutation c.requires.runs in
     let few : length single + length (runs_findings once) < 2 ^ 64 =
     subst (λ (l : List SectorRun). length single + length (runs_findings l) < 2 ^ 64) (kept_is c)
     (subst (λ (l : List SectorRun). length single + length (runs_findings l) < 2 ^ 64) c.as_slice-2.ensures.value

@@ -9,7 +9,7 @@ use Rattle.btr_files.proofs.Rows.{free_is, ready_is, same_through}
 use Rattle.btr_resolve.specs.Cursor.{AreOn, FoundRankFalls, IsFound, NextOwnerBy}
 use Rattle.btr_resolve.specs.declared.owner.Owner.{Owner}
 use Rattle.btr_resolve.specs.declared.owners.Owners.{Owners}
-use Rattle.btr_resolve.proofs.Cursors.{next_fault, next_nears, next_none, next_owner}
+use Rattle.btr_resolve.proofs.Cursors.{next_fault, next_rank_falls, next_none, next_owner}
 use Rattle.btr_resolve.proofs.owners.Owners.next.Goals as goal
 
 pub find_owner-requires-clause-ready : goal.find_owner-requires-clause-ready
@@ -53,12 +53,12 @@ returns-in-Ok-Some-clause-volume g c = record {
       c.find_owner.new.scan c.args.self.now.rest c.scan-scan.ensures c.find_owner.ensures.others c.rest-self.ensures.back;
 }
 
-pub returns-in-Ok-Some-clause-nears : goal.returns-in-Ok-Some-clause-nears
-returns-in-Ok-Some-clause-nears g c =
-    next_nears c.args.self.now.rest c.scan-scan.result c.find_owner.new.scan c.find_owner.new.store c.rest-self.result
+pub returns-in-Ok-Some-clause-rank_falls : goal.returns-in-Ok-Some-clause-rank_falls
+returns-in-Ok-Some-clause-rank_falls g c =
+    next_rank_falls c.args.self.now.rest c.scan-scan.result c.find_owner.new.scan c.find_owner.new.store c.rest-self.result
     c.scan-scan.ensures c.rest-self.ensures.rests
     (subst (FoundRankFalls (rank_of c.scan-scan.result) (rank_of c.find_owner.new.scan))
-    (c.in-Ok-Some.is ∙ ap Ok c.in-Ok-Some.field-0-is) c.find_owner.ensures.nears)
+    (c.in-Ok-Some.is ∙ ap Ok c.in-Ok-Some.field-0-is) c.find_owner.ensures.rank_falls)
 
 pub returns-in-Ok-None-clause-content : goal.returns-in-Ok-None-clause-content
 returns-in-Ok-None-clause-content g c =

@@ -26,7 +26,7 @@ use Rattle.btr_walk.specs.Reading.{Map, UnreadBlock, unread_by}
 use Rattle.btr_run.specs.Behind.{IfSteady}
 use Rattle.btr_run.specs.Filesystem.{OpensAs, OpensFilesystem, filesystem_in}
 use Rattle.btr_run.specs.Listed.{BesideSinks, lined, line_mark, listed_by, stopped_answer}
-use Rattle.btr_run.specs.Outcomes.{Stands}
+use Rattle.btr_run.specs.Outcomes.{DidAndTold}
 use Rattle.btr_run.specs.Queries.Resolved.{IsResolved, none_left_out, owners_run, resolve_row}
 use Rattle.btr_run.specs.Rows.{IsRowDone, IsRowOrUnread, Row, row_outcome}
 use Rattle.btr_run.specs.declared.answer.Answer.{Answer}
@@ -55,7 +55,7 @@ lines_text (line ∷ lines) = ap (λ l. line ++ l) (lines_text lines)
 
 lines_stand : (lines : List (List ℕ)) (s : Sink) (c : CallAccount) (text text' : Option (List ℕ)) (calls calls' : CallAccount)
     → Adds text text' (call.whole lines)
-    → Stands (outside s c text calls) (outside s c text' calls') (put_lines lines) []
+    → DidAndTold (outside s c text calls) (outside s c text' calls') (put_lines lines) []
 lines_stand lines s c text text' calls calls' adds =
     record { sink = lines_sink lines s; text = subst (Adds text text') (lines_text lines ∙ sym (append-nil (text_of (put_lines lines)))) adds }
 
@@ -158,7 +158,7 @@ module _ (addr : ℕ) (old mid new : Seen) (first : OnlyReads old mid) (volume a
   abbrev y : Sink → CallAccount → Outside
   y s c = outside s c text' calls'
 
-  did : (s : Sink) (c : CallAccount) → Stands (x s c) (y s c) done []
+  did : (s : Sink) (c : CallAccount) → DidAndTold (x s c) (y s c) done []
   did s c = lines_stand ran.lines s c text text' calls calls' ran.adds
 
   follows : (B : Map) → Follows (unread_by layout mid new) call.part [] (exec B (resolved volume.sup layout.chunks addr)) ran.lines (ended result)

@@ -9,10 +9,10 @@ use Rattle.btr_read.specs.declared.want.Want.TheVariants as want
 use Rattle.btr_volume.specs.declared.stop.Stop.{Stop}
 use Rattle.btr_volume.specs.declared.volume.Volume.{Volume}
 use Rattle.btr_run.specs.Behind.{IfSteady}
-use Rattle.btr_run.specs.Outcomes.{Shows, showing}
+use Rattle.btr_run.specs.Outcomes.{ShowsOutcome, showing}
 use Rattle.btr_run.specs.Queries.Trees.{AgreesOn, ShowsUpTo, call_answer, trees_shown}
 use Rattle.btr_run.specs.declared.query.DumpChoice.{DumpChoice}
-use Rattle.btr_run.proofs.Coming.{when_told}
+use Rattle.btr_read.proofs.Fetched.{map_some}
 use Rattle.btr_run.proofs.TreesShown.{run_agreed, run_comes, steadily, steadily_block, told_agreed, told_block, tree_agreed, tree_comes}
 use Rattle.btr_run.proofs.query.trees.show.Goals as goal
 
@@ -20,11 +20,12 @@ use Rattle.btr_run.proofs.query.trees.show.Goals as goal
 module _ (volume : Volume) (old new : Seen) (text text' : Option (List ℕ)) (before after : CallAccount) (result : Result (Unit {0}) Stop) where
   abbrev Content : DumpChoice → Type 0
   Content choice = IfSteady old.held old.account new.account (λ images.
-      Shows (λ outcome. outcome ≡ showing (trees_shown choice (fate images volume.store.layout) volume.sup)) text text' before after (call_answer result))
+      ShowsOutcome (λ outcome. outcome ≡ showing (trees_shown choice (fate images volume.store.layout) volume.sup)) text text' before after
+      (call_answer result))
 
   abbrev Agreeing : DumpChoice → Type 0
   Agreeing choice = IfSome old.held (λ images. Agreed images volume.store.layout → AgreesOn choice images volume.store.layout
-      → Shows (ShowsUpTo choice (fate images volume.store.layout) volume.sup) text text' before after (call_answer result))
+      → ShowsOutcome (ShowsUpTo choice (fate images volume.store.layout) volume.sup) text text' before after (call_answer result))
 
 pub returns-in-All-clause-content : goal.returns-in-All-clause-content
 returns-in-All-clause-content g c =
@@ -66,7 +67,7 @@ returns-in-All-clause-agreed g c =
     let volume = c.args.volume.now in
     subst (Agreeing volume (g.R.Rack.seen c.args.rack.now) (g.R.Rack.seen c.dump_all.new.rack) (g.O.Out.text c.args.out.now) (g.O.Out.text c.dump_all.new.out)
     (g.O.Out.account c.args.out.now) (g.O.Out.account c.dump_all.new.out) c.dump_all.result) (sym c.in-All.is)
-    (when_told (g.R.Rack.seen c.args.rack.now).held _ _ (λ images shows agreed agree. shows agreed)
+    (map_some (g.R.Rack.seen c.args.rack.now).held _ _ (λ images shows agreed agree. shows agreed)
     (run_agreed volume.store.layout _ _ _ _ _ _ _ c.dump_all.ensures.account
     (λ images. Agreed images volume.store.layout) (λ B. exec B (all_trees volume.sup)) (told_agreed _ _ _ _ c.dump_all.ensures.content)))
 
@@ -76,7 +77,7 @@ returns-in-Block-clause-agreed g c =
     subst (Agreeing volume (g.R.Rack.seen c.args.rack.now) (g.R.Rack.seen c.dump_block.new.rack)
     (g.O.Out.text c.args.out.now) (g.O.Out.text c.dump_block.new.out)
     (g.O.Out.account c.args.out.now) (g.O.Out.account c.dump_block.new.out) c.dump_block.result) (sym c.in-Block.is)
-    (when_told (g.R.Rack.seen c.args.rack.now).held _ _ (λ images shows agreed agree. shows agree)
+    (map_some (g.R.Rack.seen c.args.rack.now).held _ _ (λ images shows agreed agree. shows agree)
     (run_agreed volume.store.layout _ _ _ _ _ _ _ c.dump_block.ensures.account
     (λ images. Agree images volume.store.layout (want.Block c.in-Block.addr)) (λ B. exec B (block_shown (kind_in volume.sup) c.in-Block.addr))
     (told_block _ _ _ c.in-Block.addr _ c.dump_block.ensures.content)))
@@ -87,7 +88,7 @@ returns-in-Tree-clause-agreed g c =
     subst (Agreeing volume (g.R.Rack.seen c.args.rack.now) (g.R.Rack.seen c.dump_tree.new.rack)
     (g.O.Out.text c.args.out.now) (g.O.Out.text c.dump_tree.new.out)
     (g.O.Out.account c.args.out.now) (g.O.Out.account c.dump_tree.new.out) c.dump_tree.result) (sym c.in-Tree.is)
-    (when_told (g.R.Rack.seen c.args.rack.now).held _ _ (λ images shows agreed agree. shows agreed)
+    (map_some (g.R.Rack.seen c.args.rack.now).held _ _ (λ images shows agreed agree. shows agreed)
     (tree_agreed volume.store.layout _ _ _ _ _ _ _ c.dump_tree.ensures.account
     (λ images. Agreed images volume.store.layout) (λ B. exec B (asked_tree volume.sup c.in-Tree.id)) (told_agreed _ _ _ _ c.dump_tree.ensures.content)))
 
@@ -97,6 +98,6 @@ returns-in-RootLines-clause-agreed g c =
     subst (Agreeing volume (g.R.Rack.seen c.args.rack.now) (g.R.Rack.seen c.list_roots.new.rack)
     (g.O.Out.text c.args.out.now) (g.O.Out.text c.list_roots.new.out)
     (g.O.Out.account c.args.out.now) (g.O.Out.account c.list_roots.new.out) c.list_roots.result) (sym c.in-RootLines.is)
-    (when_told (g.R.Rack.seen c.args.rack.now).held _ _ (λ images shows agreed agree. shows agreed)
+    (map_some (g.R.Rack.seen c.args.rack.now).held _ _ (λ images shows agreed agree. shows agreed)
     (run_agreed volume.store.layout _ _ _ _ _ _ _ c.list_roots.ensures.account
     (λ images. Agreed images volume.store.layout) (λ B. exec B (roots_shown volume.sup)) (told_agreed _ _ _ _ c.list_roots.ensures.content)))

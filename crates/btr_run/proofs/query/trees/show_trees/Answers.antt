@@ -21,7 +21,7 @@ use Rattle.btr_volume.specs.declared.volume.Volume.{Volume}
 use Rattle.btr_run.specs.Behind.{IfSteady}
 use Rattle.btr_run.specs.Filesystem.{OpensAs, OpensFilesystem, filesystem_in, filesystem_of}
 use Rattle.btr_run.specs.Listed.{BesideSinks}
-use Rattle.btr_run.specs.Outcomes.{HasOneOutcome, OrBare, OrMemory, Outcome, Shows, showing}
+use Rattle.btr_run.specs.Outcomes.{HasOneOutcome, OrBare, OrMemory, Outcome, ShowsOutcome, showing}
 use Rattle.btr_run.specs.Rows.{IsRowDone, IsRowOrUnread, Row, row_outcome}
 use Rattle.btr_run.specs.Queries.Trees.{AgreesOn, IsTreesOutcome, ShowsUpTo, call_answer, dump_row, trees_shown}
 use Rattle.btr_run.specs.Unopened.{AreAgreed}
@@ -31,7 +31,8 @@ use Rattle.btr_run.specs.declared.query.DumpChoice.TheVariants.{All, Block, Tree
 use Rattle.btr_run.specs.Faults.{stop_answer}
 use Rattle.btr_run.specs.declared.answer.Answer.TheVariants.{Done}
 use Rattle.btr_run.proofs.Agreements.{agreeing_opened}
-use Rattle.btr_run.proofs.Coming.{comes_shown, shows_also, when_told, answer_gives}
+use Rattle.btr_run.proofs.Coming.{comes_shown, shows_also, answer_gives}
+use Rattle.btr_read.proofs.Fetched.{map_some}
 use Rattle.btr_run.proofs.Filesystems.{opened_layout}
 use Rattle.btr_run.proofs.Rows.{row_opened, row_unopened}
 use Rattle.btr_run.proofs.TreesShown.{shown_behind, shown_told}
@@ -80,30 +81,30 @@ module _ (choice : DumpChoice) (old mid new : Seen) (first : OnlyReads old mid) 
   IsWhole images outcome = row_outcome row images ≡ outcome
 
   steady_text : (held : Option Images) → IfSteady held old.account mid.account (λ images. OpensFilesystem images (Ok volume))
-      → IfSteady held mid.account new.account (λ images. Shows (IsShown images) text text' before after (call_answer result))
-      → IfSteady held old.account new.account (λ images. Shows (OrMemory (IsWhole images)) text text' before after answer)
+      → IfSteady held mid.account new.account (λ images. ShowsOutcome (IsShown images) text text' before after (call_answer result))
+      → IfSteady held old.account new.account (λ images. ShowsOutcome (OrMemory (IsWhole images)) text text' before after answer)
   steady_text None opens shows = tt
   steady_text (Some images) opens shows = λ steady.
       let opened : filesystem_of images ≡ Ok (filesystem_in volume) = opens
       (omega (arith, steady.0, second.later), omega (arith, steady.1, second.later)) in
-      subst (λ a. Shows (OrMemory (IsWhole images)) text text' before after a) (sym is)
+      subst (λ a. ShowsOutcome (OrMemory (IsWhole images)) text text' before after a) (sym is)
       (shows_also (IsShown images) (OrMemory (IsWhole images)) text text' before after (call_answer result)
       (λ outcome e. inl (row_opened row images (filesystem_in volume) opened ∙ sym e))
       (shows (omega (arith, steady.0, first.later), steady.1)))
 
   agreed_text : IfSome old.held (λ images. OpensAs images old mid (Ok volume))
-      → IfSome mid.held (λ images. Agreed images layout → AgreesOn choice images layout → Shows
+      → IfSome mid.held (λ images. Agreed images layout → AgreesOn choice images layout → ShowsOutcome
       (ShowsUpTo choice (fate images layout) volume.sup) text text' before after (call_answer result))
-      → Shows (OrBare IsTreesOutcome) text text' before after answer
-      → IfSome old.held (λ images. AreAgreed images → Shows (IsRowOrUnread row images) text text' before after answer)
+      → ShowsOutcome (OrBare IsTreesOutcome) text text' before after answer
+      → IfSome old.held (λ images. AreAgreed images → ShowsOutcome (IsRowOrUnread row images) text text' before after answer)
   agreed_text opens shows some =
-      agreeing_opened old mid volume opens (λ images. Shows (IsRowOrUnread row images) text text' before after answer)
+      agreeing_opened old mid volume opens (λ images. ShowsOutcome (IsRowOrUnread row images) text text' before after answer)
       (λ images told opened agreed.
       let held : mid.held ≡ Some images = ap (λ (s : Seen). s.held) first.same ∙ told in
       let so = subst (λ (o : Option Images). IfSome o
-      (λ i. Agreed i layout → AgreesOn choice i layout → Shows (ShowsUpTo choice (fate i layout) volume.sup) text text' before after
+      (λ i. Agreed i layout → AgreesOn choice i layout → ShowsOutcome (ShowsUpTo choice (fate i layout) volume.sup) text text' before after
       (call_answer result))) held shows in
-      ⊎_elim (λ agree. subst (Shows (IsRowOrUnread row images) text text' before after) (sym is)
+      ⊎_elim (λ agree. subst (ShowsOutcome (IsRowOrUnread row images) text text' before after) (sym is)
       (shows_also (ShowsUpTo choice (fate images layout) volume.sup) (IsRowOrUnread row images) text text' before after (call_answer result)
       (λ outcome one. ⊎_elim (λ e. inl (row_opened row images (filesystem_in volume) opened ∙ sym e))
       (λ broken. inr (inl (filesystem_in volume, opened, λ agree. broken))) one)
@@ -114,24 +115,24 @@ module _ (choice : DumpChoice) (old mid new : Seen) (first : OnlyReads old mid) 
 
   dumped_done : IfSteady old.held old.account mid.account (λ images. OpensFilesystem images (Ok volume))
       → IfSome old.held (λ images. OpensAs images old mid (Ok volume))
-      → IfSteady mid.held mid.account new.account (λ images. Shows (IsShown images) text text' before after (call_answer result))
-      → IfSome mid.held (λ images. Agreed images layout → AgreesOn choice images layout → Shows
+      → IfSteady mid.held mid.account new.account (λ images. ShowsOutcome (IsShown images) text text' before after (call_answer result))
+      → IfSome mid.held (λ images. Agreed images layout → AgreesOn choice images layout → ShowsOutcome
       (ShowsUpTo choice (fate images layout) volume.sup) text text' before after (call_answer result))
       → StopCounts before after result → Grows text text' → DumpStopCause layout mid new result
       → BesideSinks text before text' after (λ x y. IsRowDone row old new x y answer)
   dumped_done content opened shows agreed counts grows cause s c = record {
-    effect = when_told old.held _ _ (λ images shown steady. comes (OrMemory (IsWhole images)) (shown steady))
+    effect = map_some old.held _ _ (λ images shown steady. comes (OrMemory (IsWhole images)) (shown steady))
         (steady_text old.held content (subst (λ held. IfSteady held mid.account new.account
-        (λ images. Shows (IsShown images) text text' before after (call_answer result))) (ap (λ (q : Seen). q.held) first.same) shows));
-    agreed = when_told old.held _ _ (λ images shown agree. comes (IsRowOrUnread row images) (shown agree)) (agreed_text opened agreed some);
+        (λ images. ShowsOutcome (IsShown images) text text' before after (call_answer result))) (ap (λ (q : Seen). q.held) first.same) shows));
+    agreed = map_some old.held _ _ (λ images shown agree. comes (IsRowOrUnread row images) (shown agree)) (agreed_text opened agreed some);
     told = comes (OrBare IsTreesOutcome) some;
     cause = shown_behind old mid new first second before after answer result is counts layout (opened_layout old mid new volume first second opened) cause;
   }
     where
-      some : Shows (OrBare IsTreesOutcome) text text' before after answer
+      some : ShowsOutcome (OrBare IsTreesOutcome) text text' before after answer
       some = shown_told text text' before after answer result is counts grows
 
-      comes : (IsOne : Outcome → Type 0) → Shows IsOne text text' before after answer
+      comes : (IsOne : Outcome → Type 0) → ShowsOutcome IsOne text text' before after answer
           → HasOneOutcome (before.ample ≡ false) IsOne (outside s c text before) (outside s c text' after) answer
       comes IsOne shown = comes_shown (before.ample ≡ false) IsOne (outside s c text before) (outside s c text' after) answer refl refl (λ scarce. scarce) shown
 
