@@ -1,21 +1,15 @@
 -- A block with copies, and a try of one of them.
-use Rattle.std.proofs.Common.{◌≡◌, ℕ, ◌<◌, ◌&&◌, true, false, List, Option, Some, None, IfSome, IfOk, IsOkAnd, IsSome, IsSomeAnd, Result, Ok, sym, ap, ◌∙◌}
-use Rattle.std.proofs.Common.{subst, arith}
-use Rattle.std.proofs.lemmas.Bool.{false≢true}
-use Rattle.btr_chunk.specs.Chunk.{mirrors}
-use Rattle.btr_chunk.specs.declared.place.Part.TheVariants.{Mirror}
-use Rattle.btr_rack.specs.Rack.{Seen}
-use Rattle.btr_read.specs.Candidates.{Target, element, range_of, stands}
+use Rattle.std.proofs.Common.{◌≡◌, ℕ, ◌<◌, ◌&&◌, true, false, List, Option, Some, None, IfSome, IsOkAnd, IsSome, IsSomeAnd, Result, Ok, sym, ap, ◌∙◌, subst}
+use Rattle.btr_scrub_copies.proofs.Common.{Images, IsOfCopy, Layout, Lent, Mirror, SameLoans, Seen, Target, Want, block_of, element, false≢true, mirrors}
+use Rattle.btr_scrub_copies.proofs.Common.{range_of, sought, stands}
 use Rattle.btr_read.specs.Cause.{IsMissed}
-use Rattle.btr_read.specs.Fate.{Fault, sought}
-use Rattle.btr_read.specs.Layout.{Layout}
+use Rattle.btr_read.specs.Fate.{Fault}
 use Rattle.btr_read.specs.Mirror.{HasMirror, IsTried, mirror_candidate}
-use Rattle.btr_read.specs.Store.{Blocks, Lent, SameLoans, block_of}
+use Rattle.btr_read.specs.Store.{Blocks}
 use Rattle.btr_read.specs.Want.{passes}
-use Rattle.btr_read.specs.declared.want.Want.{Want}
 use Rattle.btr_scrub_copies.specs.Blocks.{is_good}
-use Rattle.btr_scrub_copies.specs.Mending.{IsCopied, IsOfCopy}
-use Rattle.btr_scrub_copies.specs.Writes.{FailsAt, Images}
+use Rattle.btr_scrub_copies.specs.Mending.{IsCopied}
+use Rattle.btr_scrub_copies.specs.Writes.{FailsAt}
 use Rattle.btr_scrub_copies.proofs.Flags.{StandAll}
 
 -- the copies below their number are there
@@ -31,10 +25,6 @@ pub can_try : (layout : Layout) (want : Want) (m : ℕ) (c : IsCopied layout wan
     → IsOkAnd (sought layout want) (HasMirror m)
 can_try layout want m c h = subst (λ r. IsOkAnd r (HasMirror m)) (sym c.is_sought) (h c.target c.is_sought)
 
--- what is said of what is sought
-pub at_target : (P : Target → Type 0) (r : Result Target Fault) (t : Target) → r ≡ Ok t → IfOk r P → P t
-at_target P r t e h = subst (λ r. IfOk r P) e h
-
 -- a want has one position
 pub same_target : (r : Result Target Fault) (t u : Target) → r ≡ Ok t → r ≡ Ok u → t ≡ u
 same_target r t u e h = cc
@@ -48,8 +38,8 @@ copy_stands layout want t m c e has =
 
 -- so do all
 pub copies_stand : (layout : Layout) (want : Want) (t : Target) (n : ℕ) → IsCopied layout want → sought layout want ≡ Ok t → mirrors t.chunk ≡ Some n
-    → StandAll t 0 n
-copies_stand layout want t n c e has k l u = copy_stands layout want t k c e (has_mirror t n k has (omega (arith, u)))
+    → StandAll t n
+copies_stand layout want t n c e has k lt = copy_stands layout want t k c e (has_mirror t n k has lt)
 
 -- a candidate that reads a copy that stands isn't absent
 pub not_absent : (t : Target) (m : ℕ) → IsSome (range_of t (Mirror m)) → stands t (mirror_candidate m) ≡ false → ⊥

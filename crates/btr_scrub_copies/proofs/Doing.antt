@@ -1,21 +1,16 @@
 -- Reads and writes one after another.
-use Rattle.std.proofs.Common.{◌≡◌, ◌⊎◌, ℕ, Bool, List, [], ◌∷◌, ◌++◌, All, IfSome, IsSomeAnd, Option, Some, None, Result, Ok, Err, IsErrAnd, get_or, refl}
-use Rattle.std.proofs.Common.{sym, ap, ◌∙◌}
+use Rattle.std.proofs.Common.{◌≡◌, ◌⊎◌, ℕ, Bool, List, [], ◌∷◌, ◌++◌, IfSome, IsSomeAnd, Option, Some, None, Result, Ok, Err, IsErrAnd, refl, sym, ap, ◌∙◌}
 use Rattle.std.proofs.Common.{subst, inl, inr, arith, append_assoc, append-nil}
+use Rattle.btr_scrub_copies.proofs.Common.{AccountsMend, AreAmong, DoesWrites, Image, Images, In, IsMarked, IsStopped, LeaveImages, Memory, MendFault}
+use Rattle.btr_scrub_copies.proofs.Common.{NoneFailed, OnlyReads, Range, Seen, Write, none_failed, none_more, ranges_of, reads_none, same_held}
 use Rattle.std.specs.Prelude.{fold}
-use Rattle.std.proofs.lemmas.List.Elements.{All-append, All-nil}
-use Rattle.btr_rack.specs.Rack.{NoneFailed, OnlyReads, Seen}
-use Rattle.btr_rack.specs.declared.place.Place.{Place as Range}
-use Rattle.btr_rack.proofs.Reading.{reads_none}
-use Rattle.btr_read.proofs.Keeping.{none_failed, none_more, one_after}
-use Rattle.btr_read.proofs.ReadsOn.{same_held, same_sure}
+use Rattle.std.proofs.lemmas.List.Elements.{All-append, All-nil, All-weaker}
+use Rattle.btr_read.proofs.Keeping.{one_after}
+use Rattle.btr_read.proofs.ReadsOn.{same_sure}
 use Rattle.btr_read.proofs.Ones.{in_either, in_left, in_right}
-use Rattle.btr_scrub_copies.specs.Writes.{AccountsMend, AreAmong, DoesWrites, FailsAt, Images, In, IsMarked, IsStopped, IsTorn, LeaveImages, Marks}
-use Rattle.btr_scrub_copies.specs.Writes.{OnlyWrites, Write}
-use Rattle.btr_scrub_copies.specs.Writes.{ranges_of, write_on}
-use Rattle.btr_scrub_copies.specs.declared.mended.MendFault.{MendFault}
-use Rattle.btr_scrub_copies.specs.declared.mended.MendFault.TheVariants.{Image, Memory}
+use Rattle.btr_scrub_copies.specs.Writes.{FailsAt, IsTorn, Marks, OnlyWrites, write_on}
 use Rattle.std.proofs.lemmas.List.Sums.{fold-append}
+use Rattle.btr_scrub_copies.proofs.Lists.{some_and}
 
 -- ---- images
 
@@ -25,10 +20,7 @@ stopped_behind ws vs images new h = record {
   before = ws ++ h.before;
   behind = h.behind;
   place = ap (λ q. ws ++ q) h.place ∙ sym (append_assoc ws h.before h.behind);
-  stands = elim h.stands as (λ _. (new ≡ fold write_on images (ws ++ h.before)) ⊎ IsTorn h.behind (fold write_on images (ws ++ h.before)) new) [
-    | inl e ↦ inl (e ∙ sym (fold-append write_on images ws h.before))
-    | inr t ↦ inr (subst (λ o. IsTorn h.behind o new) (sym (fold-append write_on images ws h.before)) t)
-  ];
+  stands = rw (fold-append write_on images ws h.before) h.stands;
 }
 
 -- a write that was torn is still the first one where others were to come
@@ -52,21 +44,13 @@ stopped_before ws vs images new h = record {
 pub stopped_first : (ws : List Write) (images : Images) → IsStopped ws images images
 stopped_first ws images = record { before = []; behind = ws; place = refl; stands = inl refl }
 
--- what follows of a value follows of one that may be there
-pub some_and : {X : Type 0} (P Q : X → Type 0) (o : Option X) → ((x : X) → P x → Q x) → IsSomeAnd o P → IsSomeAnd o Q
-some_and P Q None f h = h
-some_and P Q (Some x) f h = f x h
-
 -- writes behind others that were all done leave what all of them leave
 leaves_then : (A U : Type 0) (ws vs : List Write) (a b c : Option Images) (u : U) (r : Result A MendFault)
     → LeaveImages {A = U} {E = MendFault} (λ i. ws) a b (Ok u) → LeaveImages (λ i. vs) b c r → LeaveImages (λ i. ws ++ vs) a c r
-leaves_then A U ws vs None b c u r h g = subst (λ o. LeaveImages (λ i. vs) o c r) h g
-leaves_then A U ws vs (Some images) b c u (Ok x) h g =
-    let later : c ≡ Some (fold write_on (fold write_on images ws) vs) = subst (λ o. LeaveImages {A = A} {E = MendFault} (λ i. vs) o c (Ok x)) h g in
-    later ∙ ap Some (sym (fold-append write_on images ws vs))
+leaves_then A U ws vs None b c u r h g = rw h at g
+leaves_then A U ws vs (Some images) b c u (Ok x) h g = rw (fold-append write_on images ws vs) (rw h at g)
 leaves_then A U ws vs (Some images) b c u (Err e) h g =
-    some_and (IsStopped vs (fold write_on images ws)) (IsStopped (ws ++ vs) images) c (λ new s. stopped_behind ws vs images new s)
-    (subst (λ o. LeaveImages {A = A} {E = MendFault} (λ i. vs) o c (Err e)) h g)
+    some_and (IsStopped vs (fold write_on images ws)) (IsStopped (ws ++ vs) images) c (λ new s. stopped_behind ws vs images new s) (rw h at g)
 
 -- what is left of writes that were stopped is left of more writes, stopped at the same one
 leaves_halt : (A B : Type 0) (ws vs : List Write) (a b : Option Images) (e : MendFault) → LeaveImages {A = A} (λ i. ws) a b (Err e)
@@ -167,18 +151,14 @@ only_sure : {a b : Seen} (rs : List Range) → OnlyWrites rs a b → b.sure ≡ 
 only_sure rs h = ap (λ (s : Seen). s.sure) h.same
 
 -- where nothing is written, the marks are as they were
-marks_none : (marks : List Bool) → Marks [] marks marks
+pub marks_none : (marks : List Bool) → Marks [] marks marks
 marks_none marks = record { added = All-nil (λ (r : Range). IsMarked marks r.slot); kept = λ slot m. m }
-
--- what follows for each range follows for all
-weaker : (P Q : Range → Type 0) (rs : List Range) → ((r : Range) → P r → Q r) → All P rs → All Q rs
-weaker P Q rs f all k d lt = f (get_or rs k d) (all k d lt)
 
 -- marks that were set one after another cover the ranges of both
 marks_then : (rs qs : List Range) (a b c : List Bool) → Marks rs a b → Marks qs b c → Marks (rs ++ qs) a c
 marks_then rs qs a b c h g = record {
   added = All-append (λ (r : Range). IsMarked c r.slot) rs qs
-      (weaker (λ r. IsMarked b r.slot) (λ r. IsMarked c r.slot) rs (λ r m. g.kept r.slot m) h.added) g.added;
+      (All-weaker (λ r. IsMarked b r.slot) (λ (r : Range). IsMarked c r.slot) (λ r m. g.kept r.slot m) rs h.added) g.added;
   kept = λ slot m. g.kept slot (h.kept slot m);
 }
 
@@ -208,18 +188,30 @@ pub does_passed : {A : Type 0} {P : Range → Type 0} {f : Images → List Write
 does_passed {P = P} {f = f} {m = m} {n = n} {a = a} {b = b} {r = r} {fault = fault} is h = passed (λ r. DoesWrites P f m n a b r) r fault is h
 
 module _ (P : Range → Type 0) where
+  -- where images were only read, no range waits more
+  untouched : {A : Type 0} {f : Images → List Write} {marks : List Bool} {a b : Seen} {r : Result A MendFault} → OnlyReads a b
+      → LeaveImages f a.held b.held r → AccountsMend P a b r → DoesWrites P f marks marks a b r
+  untouched {f = f} {marks = marks} {a = a} reads held account = record {
+    ranges = [];
+    only = only_reads reads;
+    own = own_none a.held f;
+    lie = λ range i. absurd i;
+    marked = marks_none marks;
+    held = held;
+    account = account;
+  }
+
+  -- what was done is what another call does that leaves the same, over the same ranges
+  pub retold : {A B : Type 0} {f g : Images → List Write} {m n : List Bool} {a b : Seen} {r : Result A MendFault} {q : Result B MendFault}
+      (h : DoesWrites P f m n a b r) → IfSome a.held (λ images. AreAmong h.ranges (ranges_of (g images))) → LeaveImages g a.held b.held q
+      → AccountsMend P a b q → DoesWrites P g m n a b q
+  retold h own held account =
+      record { ranges = h.ranges; only = h.only; own = own; lie = h.lie; marked = h.marked; held = held; account = account }
+
   -- nothing was done, or only reading
   pub does_reads : {A : Type 0} (marks : List Bool) (a b : Seen) (x : A) → OnlyReads a b → NoneFailed a.account b.account
       → DoesWrites P (λ i. []) marks marks a b (Ok x)
-  does_reads marks a b x reads none = record {
-    ranges = [];
-    only = only_reads reads;
-    own = own_none a.held (λ i. []);
-    lie = λ range i. absurd i;
-    marked = marks_none marks;
-    held = leaves_none a.held b.held x (ap (λ (s : Seen). s.held) reads.same);
-    account = none;
-  }
+  does_reads marks a b x reads none = untouched reads (leaves_none a.held b.held x (ap (λ (s : Seen). s.held) reads.same)) none
 
   -- where nothing is done, nothing is written, and the account is as before
   pub does_nothing : (marks : List Bool) (a : Seen) → DoesWrites {A = Unit {0}} P (λ i. []) marks marks a a (Ok tt)
@@ -228,15 +220,8 @@ module _ (P : Range → Type 0) where
   -- a read failed
   pub does_failed : (A B : Type 0) (f : Images → List Write) (marks : List Bool) (a b : Seen) (x : MendFault) → OnlyReads a b
       → AccountsMend {A = B} P a b (Err x) → DoesWrites {A = A} P f marks marks a b (Err x)
-  does_failed A B f marks a b x reads account = record {
-    ranges = [];
-    only = only_reads reads;
-    own = own_none a.held f;
-    lie = λ range i. absurd i;
-    marked = marks_none marks;
-    held = leaves_failed A f a.held b.held x (ap (λ (s : Seen). s.held) reads.same);
-    account = account_halt B A P a b x account;
-  }
+  does_failed A B f marks a b x reads account =
+      untouched reads (leaves_failed A f a.held b.held x (ap (λ (s : Seen). s.held) reads.same)) (account_halt B A P a b x account)
 
   -- writes behind others that were all done are all of them, or those up to one that failed
   pub does_then : (A U : Type 0) (ws vs : List Write) (m n o : List Bool) (a b c : Seen) (u : U) (r : Result A MendFault)
@@ -254,41 +239,19 @@ module _ (P : Range → Type 0) where
   -- writes that were stopped are more writes, stopped at the same one
   pub does_halt : (A B : Type 0) (ws vs : List Write) (m n : List Bool) (a b : Seen) (e : MendFault) → DoesWrites {A = A} P (λ i. ws) m n a b (Err e)
       → DoesWrites {A = B} P (λ i. ws ++ vs) m n a b (Err e)
-  does_halt A B ws vs m n a b e h = record {
-    ranges = h.ranges;
-    only = h.only;
-    own = own_halt ws vs h.ranges a.held h.own;
-    lie = h.lie;
-    marked = h.marked;
-    held = leaves_halt A B ws vs a.held b.held e h.held;
-    account = account_halt A B P a b e h.account;
-  }
+  does_halt A B ws vs m n a b e h =
+      retold h (own_halt ws vs h.ranges a.held h.own) (leaves_halt A B ws vs a.held b.held e h.held) (account_halt A B P a b e h.account)
 
   -- the same writes, said otherwise
   pub does_as : {A B : Type 0} (f g : Images → List Write) (m n : List Bool) (a b : Seen) (x : A) (y : B)
       → ((images : Images) → a.held ≡ Some images → f images ≡ g images) → DoesWrites P f m n a b (Ok x) → DoesWrites P g m n a b (Ok y)
-  does_as f g m n a b x y e h = record {
-    ranges = h.ranges;
-    only = h.only;
-    own = own_as f g h.ranges a.held e h.own;
-    lie = h.lie;
-    marked = h.marked;
-    held = leaves_as f g a.held b.held x y e h.held;
-    account = h.account;
-  }
+  does_as f g m n a b x y e h = retold h (own_as f g h.ranges a.held e h.own) (leaves_as f g a.held b.held x y e h.held) h.account
 
   -- the same writes, said otherwise, that were stopped
   pub does_as_halt : (A B : Type 0) (f g : Images → List Write) (m n : List Bool) (a b : Seen) (x : MendFault)
       → ((images : Images) → a.held ≡ Some images → f images ≡ g images) → DoesWrites {A = A} P f m n a b (Err x) → DoesWrites {A = B} P g m n a b (Err x)
-  does_as_halt A B f g m n a b x e h = record {
-    ranges = h.ranges;
-    only = h.only;
-    own = own_as f g h.ranges a.held e h.own;
-    lie = h.lie;
-    marked = h.marked;
-    held = leaves_as_halt A B f g a.held b.held x e h.held;
-    account = account_halt A B P a b x h.account;
-  }
+  does_as_halt A B f g m n a b x e h =
+      retold h (own_as f g h.ranges a.held e h.own) (leaves_as_halt A B f g a.held b.held x e h.held) (account_halt A B P a b x h.account)
 
   -- reads before
   pub does_behind : {A : Type 0} (f : Images → List Write) (m n : List Bool) (a b c : Seen) (r : Result A MendFault) → OnlyReads a b

@@ -1,128 +1,125 @@
 -- Copies of which a test holds, by their flags.
-use Rattle.std.proofs.Common.{◌≡◌, ◌⊎◌, ℕ, suc, zero, ◌+◌, ◌<◌, ◌≤◌, Bool, true, false, cond, List, [], ◌∷◌, ◌++◌, length, map, get_or, set}
-use Rattle.std.proofs.Common.{length-append, append-nil, append_assoc, add-one, Option, Some, None, IsSome, is_some, refl, sym, ap}
-use Rattle.std.proofs.Common.{◌∙◌, subst, inl, inr, arith}
-use Rattle.std.specs.List.{cons_option, filter, range_with_len}
-use Rattle.std.specs.Option.{option_map, option_map_or}
-use Rattle.std.proofs.lemmas.Bool.{cases_lt, false≢true}
-use Rattle.std.proofs.lemmas.List.{get_or-set_other, get_or-set_same}
+use Rattle.std.proofs.Common.{◌≡◌, ℕ, ◌+◌, ◌<◌, ◌≤◌, Bool, true, false, cond, List, [], ◌∷◌, ◌++◌, length, map, get_or, set, length-append, Option, Some, None}
+use Rattle.std.proofs.Common.{IsSome, refl, sym, ap, ◌∙◌, arith, ◌-◌}
+use Rattle.btr_scrub_copies.proofs.Common.{AreFlagged, Mirror, Part, Range, Target, Write, copy_writes, false≢true, filter, flagged_copies, mended_copies}
+use Rattle.btr_scrub_copies.proofs.Common.{mirrors, option_map, option_map_or, range_of, range_with_len, writes_if}
+use Rattle.std.proofs.lemmas.List.{map-append}
 use Rattle.std.proofs.lemmas.List.Elements.{filter-append, filter_map-append}
 use Rattle.std.proofs.lemmas.List.FromFn.{filter_of_map_range_with_len_more}
-use Rattle.btr_chunk.specs.Chunk.{mirrors}
-use Rattle.btr_chunk.specs.declared.place.Part.{Part}
-use Rattle.btr_chunk.specs.declared.place.Part.TheVariants.{Mirror, Slice}
-use Rattle.btr_rack.specs.declared.place.Place.{Place as Range}
-use Rattle.btr_read.specs.Candidates.{Target, range_of}
-use Rattle.btr_scrub_copies.specs.Blocks.{copy_writes, own_parts}
-use Rattle.btr_scrub_copies.specs.Mending.{AreFlagged, flagged_copies}
+use Rattle.btr_chunk.specs.declared.place.Part.TheVariants.{Slice}
+use Rattle.btr_read.proofs.Ones.{in_below}
+use Rattle.btr_read.proofs.Order.{of_filter}
+use Rattle.btr_scrub_copies.specs.Blocks.{own_parts}
+use Rattle.btr_scrub_copies.proofs.Lists.{each_of, filter-map, filter_same, flag_more, length-filter_map, range_apart}
 
 -- a test counts for one at most
 pub cond_few : (b : Bool) → cond b 1 0 ≤ 1
 cond_few true = omega arith
 cond_few false = omega arith
 
-below_not : (k m : ℕ) → k < m → k ≡ m → ⊥
-below_not k m lt e = absurd (omega (arith, lt, e))
+-- the first n copies
+abbrev pub copies : ℕ → List Part
+copies n = map Mirror (range_with_len 0 n)
 
 module _ (t : Target) where
-  -- the copies from one on stand, so many of them
-  abbrev pub StandAll : ℕ → ℕ → Type 0
-  StandAll a n = (k : ℕ) → a ≤ k → k < a + n → IsSome (range_of t (Mirror k))
+  -- the first n copies stand
+  abbrev pub StandAll : ℕ → Type 0
+  StandAll n = (k : ℕ) → k < n → IsSome (range_of t (Mirror k))
 
   -- the own places of a block with copies
-  pub own_are : (n : ℕ) → mirrors t.chunk ≡ Some n → own_parts t ≡ map Mirror (range_with_len 0 n)
-  own_are n has = ap (λ o. option_map_or (λ copies. map Mirror (range_with_len 0 copies)) o (Slice t.at.index ∷ [])) has
+  pub own_are : (n : ℕ) → mirrors t.chunk ≡ Some n → own_parts t ≡ copies n
+  own_are n has = ap (λ o. option_map_or copies o (Slice t.at.index ∷ [])) has
 
   -- each copy that is written over is one write
-  pub all_written : (test : Part → Bool) (bytes : List ℕ) (a len : ℕ) → StandAll a len
-      → length (copy_writes t bytes (filter test (map Mirror (range_with_len a len))))
-      ≡ length (filter test (map Mirror (range_with_len a len)))
-  all_written test bytes a zero s = refl
-  all_written test bytes a (suc len) s = by (filter test (map Mirror (range_with_len (a + 1) len))) (test (Mirror a))
-      (all_written test bytes (a + 1) len (λ k l u. s k (omega (arith, l)) (omega (arith, u))))
+  all_written : (test : Part → Bool) (bytes : List ℕ) (n : ℕ) → StandAll n
+      → length (copy_writes t bytes (filter test (copies n))) ≡ length (filter test (copies n))
+  all_written test bytes n stand = length-filter_map {Y = Write} (λ part. option_map (λ range. record { range = range; bytes = bytes }) (range_of t part))
+      (filter test (copies n)) (λ part i. some (range_of t part) (each_of Mirror (λ part. IsSome (range_of t part)) n stand part
+      (of_filter test part (copies n) i)))
     where
-      one : (others : List Part) (o : Option Range) → range_of t (Mirror a) ≡ o → is_some o ≡ true → length (copy_writes t bytes others)
-          ≡ length others → length (copy_writes t bytes (Mirror a ∷ others)) ≡ suc (length others)
-      one others None e some rest = absurd (false≢true some)
-      one others (Some range) e some rest = ap (λ o. length
-          (cons_option (option_map (λ range. record { range = range; bytes = bytes }) o) (copy_writes t bytes others))) e ∙ ap suc rest
+      some : (o : Option Range) → IsSome o → IsSome {T = Write} (option_map (λ range. record { range = range; bytes = bytes }) o)
+      some None h = absurd (false≢true h)
+      some (Some range) h = refl
 
-      by : (others : List Part) (b : Bool) → length (copy_writes t bytes others) ≡ length others
-          → length (copy_writes t bytes (cond b (Mirror a ∷ others) others)) ≡ length (cond b (Mirror a ∷ others) others)
-      by others true rest = one others (range_of t (Mirror a)) refl (s a (omega arith) (omega arith)) rest
-      by others false rest = rest
+-- the copies that have a flag are those of which the test holds
+flags_are : {test : Part → Bool} {n count : ℕ} {flags : List Bool} → AreFlagged test n flags count → flagged_copies flags n ≡ filter test (copies n)
+flags_are {test = test} {n = n} {flags = flags} are =
+    ap (map Mirror) (filter_same (λ k. get_or flags k false) (λ k. test (Mirror k)) (range_with_len 0 n) (λ k i. are.flags k (in_below n k i)))
+    ∙ sym (filter-map Mirror test (range_with_len 0 n))
 
-module _ (test : Part → Bool) where
-  -- the copies that have a flag are those of which the test holds
-  pub flags_are : (flags : List Bool) (a len : ℕ) → ((k : ℕ) → a ≤ k → k < a + len → get_or flags k false ≡ test (Mirror k))
-      → map Mirror (filter (λ k. get_or flags k false) (range_with_len a len)) ≡ filter test (map Mirror (range_with_len a len))
-  flags_are flags a zero h = refl
-  flags_are flags a (suc len) h = by (get_or flags a false) (test (Mirror a)) (h a (omega arith) (omega arith))
-      (flags_are flags (a + 1) len (λ k l u. h k (omega (arith, l)) (omega (arith, u))))
-    where
-      by : (b c : Bool) → b ≡ c → map Mirror (filter (λ k. get_or flags k false) (range_with_len (a + 1) len))
-          ≡ filter test (map Mirror (range_with_len (a + 1) len))
-          → map Mirror (cond b (a ∷ filter (λ k. get_or flags k false) (range_with_len (a + 1) len))
-          (filter (λ k. get_or flags k false) (range_with_len (a + 1) len)))
-          ≡ cond c (Mirror a ∷ filter test (map Mirror (range_with_len (a + 1) len))) (filter test (map Mirror (range_with_len (a + 1) len)))
-      by true true e rest = ap (λ ps. Mirror a ∷ ps) rest
-      by true false e rest = absurd (false≢true (sym e))
-      by false true e rest = absurd (false≢true e)
-      by false false e rest = rest
+-- the flag of one more copy
+pub one_flag_more : (test : Part → Bool) (m : ℕ) (flags : List Bool) (count count' : ℕ) (b : Bool) → AreFlagged test m flags count → b ≡ test (Mirror m)
+    → m < length flags → count' ≡ count + cond b 1 0 → AreFlagged test (m + 1) (set flags m b) count'
+one_flag_more test m flags count count' b are here lt c = record {
+  flags = λ k below. flag_more flags m k b (λ k. test (Mirror k)) lt are.flags here below;
+  count = c ∙ ap (λ x. count + x) (ap (λ b. cond b 1 0) here ∙ sym (one (test (Mirror m))))
+      ∙ ap (λ x. x + length (cond (test (Mirror m)) (Mirror m ∷ []) [])) are.count
+      ∙ sym (ap length (filter_of_map_range_with_len_more test Mirror 0 m m (omega arith))
+      ∙ length-append (filter test (copies m)) (cond (test (Mirror m)) (Mirror m ∷ []) []));
+}
+  where
+    one : (b : Bool) → length (cond b (Mirror m ∷ []) []) ≡ cond b 1 0
+    one true = refl
+    one false = refl
 
-  -- the flag of one more copy
-  pub one_flag_more : (m : ℕ) (flags flags' : List Bool) (count count' : ℕ) → AreFlagged test m flags count → flags' ≡ set flags m (test (Mirror m))
-      → m < length flags → count' ≡ count + cond (test (Mirror m)) 1 0 → AreFlagged test (m + 1) flags' count'
-  one_flag_more m flags flags' count count' are e lt c = record {
-    flags = λ k below. at k below (cases_lt k m);
-    count = c ∙ ap (λ x. count + x) (sym (one_more (test (Mirror m)))) ∙ ap (λ x. x + length (cond (test (Mirror m)) (Mirror m ∷ []) [])) are.count
-        ∙ sym (ap length (filter_of_map_range_with_len_more test Mirror 0 m m (omega arith))
-        ∙ length-append (filter test (map Mirror (range_with_len 0 m))) (cond (test (Mirror m)) (Mirror m ∷ []) []));
-  }
-    where
-      one_more : (b : Bool) → length (cond b (Mirror m ∷ []) []) ≡ cond b 1 0
-      one_more true = refl
-      one_more false = refl
+-- copies that have a flag: those of the first ones, and of more behind them
+flagged-append : (flags : List Bool) (m d : ℕ) → flagged_copies flags (m + d)
+    ≡ flagged_copies flags m ++ map Mirror (filter (λ k. get_or flags k false) (range_with_len m d))
+flagged-append flags m d =
+    let p = λ (k : ℕ). get_or flags k false in
+    ap (λ ks. map Mirror (filter p ks)) (range_apart 0 m m d (omega arith)) ∙ ap (map Mirror) (filter-append p (range_with_len 0 m) (range_with_len m d))
+    ∙ map-append Mirror (filter p (range_with_len 0 m)) (filter p (range_with_len m d))
 
-      at : (k : ℕ) → k < m + 1 → (k < m) ⊎ (m ≤ k) → get_or flags' k false ≡ test (Mirror k)
-      at k below (inl lt') = ap (λ fs. get_or fs k false) e ∙ get_or-set_other flags m k (test (Mirror m)) false (λ same. below_not k m lt' same)
-          ∙ are.flags k lt'
-      at k below (inr ge) =
-          let same : m ≡ k = omega (arith, below, ge) in
-          subst (λ j. get_or flags' j false ≡ test (Mirror j)) same (ap (λ fs. get_or fs m false) e ∙ get_or-set_same flags m (test (Mirror m)) false lt)
-
-range_more : (a n j : ℕ) → a + n ≡ j → range_with_len a (suc n) ≡ range_with_len a n ++ j ∷ []
-range_more a zero j e = ap (λ x. x ∷ []) (omega (arith, e))
-range_more a (suc n) j e = ap (λ xs. a ∷ xs) (range_more (a + 1) n j (omega (arith, e)))
-
--- copies of numbers and of more are the copies of all
-map-append : (xs ys : List ℕ) → map Mirror (xs ++ ys) ≡ map Mirror xs ++ map Mirror ys
-map-append [] ys = refl
-map-append (x ∷ xs) ys = ap (λ ps. Mirror x ∷ ps) (map-append xs ys)
-
--- copies that have a flag, one more
-pub flagged_more : (flags : List Bool) (m : ℕ) → flagged_copies flags (m + 1) ≡ flagged_copies flags m ++ cond (get_or flags m false) (Mirror m ∷ []) []
-flagged_more flags m =
-    ap (λ xs. map Mirror (filter (λ k. get_or flags k false) xs)) (ap (range_with_len 0) (add-one m) ∙ range_more 0 m m (omega arith))
-    ∙ ap (map Mirror) (filter-append (λ k. get_or flags k false) (range_with_len 0 m) (m ∷ []))
-    ∙ map-append (filter (λ k. get_or flags k false) (range_with_len 0 m)) (cond (get_or flags m false) (m ∷ []) [])
-    ∙ ap (λ ps. flagged_copies flags m ++ ps) (by (get_or flags m false))
+-- one more
+flagged_more : (flags : List Bool) (m : ℕ) → flagged_copies flags (m + 1) ≡ flagged_copies flags m ++ cond (get_or flags m false) (Mirror m ∷ []) []
+flagged_more flags m = flagged-append flags m 1 ∙ ap (λ ps. flagged_copies flags m ++ ps) (by (get_or flags m false))
   where
     by : (b : Bool) → map Mirror (cond b (m ∷ []) []) ≡ cond b (Mirror m ∷ []) []
     by true = refl
     by false = refl
 
--- those of the first copies come first
-pub flagged_rest : (flags : List Bool) (m d : ℕ) → (rest : List Part) × (flagged_copies flags (m + d) ≡ flagged_copies flags m ++ rest)
-flagged_rest flags m zero = ([], ap (flagged_copies flags) (omega arith) ∙ sym (append-nil (flagged_copies flags m)))
-flagged_rest flags m (suc d) =
-    let r = flagged_rest flags m d in
-    let one : List Part = cond (get_or flags (m + d) false) (Mirror (m + d) ∷ []) [] in
-    let next : m + suc d ≡ m + d + 1 = omega arith in (
-      r.0 ++ one,
-      ap (flagged_copies flags) next ∙ flagged_more flags (m + d) ∙ ap (λ ps. ps ++ one) r.1 ∙ append_assoc (flagged_copies flags m) r.0 one,
-    )
+module _ (t : Target) (bytes : List ℕ) (flags : List Bool) (m : ℕ) where
+  copy_writes-append : (ps qs : List Part) → copy_writes t bytes (ps ++ qs) ≡ copy_writes t bytes ps ++ copy_writes t bytes qs
+  copy_writes-append ps qs = filter_map-append (λ part. option_map (λ range. record { range = range; bytes = bytes }) (range_of t part)) ps qs
 
--- writes over copies, one more
-pub copy_writes-append : (t : Target) (bytes : List ℕ) (ps qs : List Part) → copy_writes t bytes (ps ++ qs) ≡ copy_writes t bytes ps ++ copy_writes t bytes qs
-copy_writes-append t bytes ps qs = filter_map-append (λ part. option_map (λ range. record { range = range; bytes = bytes }) (range_of t part)) ps qs
+  -- writes over copies that have a flag, one more
+  pub written_more : copy_writes t bytes (flagged_copies flags (m + 1))
+      ≡ copy_writes t bytes (flagged_copies flags m) ++ copy_writes t bytes (cond (get_or flags m false) (Mirror m ∷ []) [])
+  written_more = ap (copy_writes t bytes) (flagged_more flags m) ∙ copy_writes-append (flagged_copies flags m) (cond (get_or flags m false) (Mirror m ∷ []) [])
+
+  -- those over the first ones come first
+  pub written_first : (n : ℕ) → m ≤ n → (rest : List Write)
+      × (copy_writes t bytes (flagged_copies flags n) ≡ copy_writes t bytes (flagged_copies flags m) ++ rest)
+  written_first n le =
+      let behind : List Part = map Mirror (filter (λ k. get_or flags k false) (range_with_len m (n - m))) in
+      let number : n ≡ m + (n - m) = omega (arith, le) in (
+        copy_writes t bytes behind,
+        ap (λ n. copy_writes t bytes (flagged_copies flags n)) number ∙ ap (copy_writes t bytes) (flagged-append flags m (n - m))
+            ∙ copy_writes-append (flagged_copies flags m) behind,
+      )
+
+-- bytes that are written over the parts of which a test holds, where these are known by flags
+module _ (t : Target) (n : ℕ) (has : mirrors t.chunk ≡ Some n) {test : Part → Bool} {flags : List Bool} {count : ℕ} (are : AreFlagged test n flags count)
+    (parts : List Part) (own : parts ≡ filter test (own_parts t)) (bytes : List ℕ) (writes : List Write) (is : writes ≡ copy_writes t bytes parts) where
+  -- those parts are copies
+  copies_are : parts ≡ filter test (copies n)
+  copies_are = own ∙ ap (filter test) (own_are t n has)
+
+  -- they are written over those that have a flag
+  pub flagged_written : copy_writes t bytes (flagged_copies flags n) ≡ writes
+  flagged_written = ap (copy_writes t bytes) (flags_are are ∙ sym copies_are) ∙ sym is
+
+  -- as many are counted, and as many written
+  pub flagged_counts : StandAll t n → (write : Bool) → mended_copies count write
+      ≡ record { bad = length parts; repaired = length (writes_if write writes); lost = false }
+  flagged_counts stand = by
+    where
+      number : count ≡ length parts
+      number = are.count ∙ ap length (sym copies_are)
+
+      written : count ≡ length writes
+      written = are.count ∙ sym (all_written t test bytes n stand) ∙ ap length (ap (copy_writes t bytes) (sym copies_are) ∙ sym is)
+
+      by : (write : Bool) → mended_copies count write ≡ record { bad = length parts; repaired = length (writes_if write writes); lost = false }
+      by true = λ i. record { bad = number i; repaired = written i; lost = false }
+      by false = λ i. record { bad = number i; repaired = 0; lost = false }

@@ -1,41 +1,27 @@
 -- The first copy of a plain sector that is trusted, and the stale ones beside it.
-use Rattle.std.proofs.Common.{◌≡◌, ℕ, suc, zero, ◌+◌, ◌<◌, ◌≤◌, ◌&&◌, ◌||◌, Bool, true, false, not, cond, List, [], ◌∷◌, ◌++◌, length, map}
-use Rattle.std.proofs.Common.{Option, Some, None, IsSome, slice_get, take, append-nil, refl, sym, ap, ◌∙◌, subst, arith}
+use Rattle.std.proofs.Common.{◌≡◌, ℕ, ◌<◌, ◌&&◌, ◌||◌, Bool, true, false, not, List, [], ◌++◌, length, map, Option, Some, None, IsSome, slice_get, append-nil}
+use Rattle.std.proofs.Common.{refl, sym, ap, ◌∙◌, arith}
+use Rattle.btr_scrub_copies.proofs.Common.{AreFlagged, Images, Mirror, Part, Target, bytes_eq, candidates, copy_writes, device_in, element, false≢true, filter}
+use Rattle.btr_scrub_copies.proofs.Common.{flagged_copies, is_on_behind, is_on_doubtful, is_stale, mended_copies, mirrors, option_map_or, range_of}
+use Rattle.btr_scrub_copies.proofs.Common.{range_with_len, stands, with_copies, writes_if}
 use Rattle.std.specs.Bool.{beq}
-use Rattle.std.specs.List.{filter, list_any, range_with_len}
-use Rattle.std.specs.Option.{option_map_or}
-use Rattle.std.specs.Str.{bytes_eq}
-use Rattle.std.proofs.lemmas.Bool.{false≢true}
+use Rattle.std.specs.List.{list_any}
 use Rattle.std.proofs.lemmas.List.Elements.{filter-append}
 use Rattle.std.proofs.lemmas.List.Folds.{list_any_at, list_any_none}
 use Rattle.std.proofs.lemmas.List.FromFn.{get_or-map-range_with_len, length-map-range_with_len, take-map-range_with_len}
 use Rattle.std.proofs.lemmas.Option.{slice_get-get_or}
-use Rattle.btr_chunk.specs.Chunk.{mirrors}
 use Rattle.btr_chunk.specs.Mapping.{place_at}
-use Rattle.btr_chunk.specs.declared.place.Part.{Part}
-use Rattle.btr_chunk.specs.declared.place.Part.TheVariants.{Mirror}
-use Rattle.btr_read.specs.Candidates.{Target, among, candidates, element, is_on_older, parts_read, range_of, reads_older, slice_count, stands, ways}
-use Rattle.btr_read.specs.Layout.{device_in}
+use Rattle.btr_read.specs.Candidates.{among, is_on_older, parts_read, reads_older, slice_count, ways}
 use Rattle.btr_read.specs.Mirror.{mirror_candidate}
 use Rattle.btr_read.specs.declared.candidate.Candidate.{Candidate}
 use Rattle.btr_read.specs.declared.candidate.Candidate.TheVariants.{Read}
 use Rattle.btr_read.specs.declared.device.Device.{Device}
-use Rattle.btr_read.proofs.Order.{filter_at, with_copies}
-use Rattle.btr_scrub_copies.specs.Blocks.{copy_writes, own_parts}
-use Rattle.btr_scrub_copies.specs.Fresh.{Failing, first_trusted, fresh, fresh_writes, freshened, is_on_behind, is_on_doubtful, is_stale}
-use Rattle.btr_scrub_copies.specs.Fresh.{is_trusted, lies_behind, reads_doubtful, stale_beside, stale_parts}
-use Rattle.btr_scrub_copies.specs.Mending.{AreFlagged, flagged_copies, mended_copies}
-use Rattle.btr_scrub_copies.specs.Writes.{Images, writes_if}
-use Rattle.btr_scrub_copies.proofs.Flags.{StandAll, all_written, flags_are, own_are}
-
--- none passes a test where another, which it implies, holds of none
-none_pass : (p q : Part → Bool) (parts : List Part) → list_any p parts ≡ false → ((part : Part) → p part ≡ false → q part ≡ false) → filter q parts ≡ []
-none_pass p q [] none h = refl
-none_pass p q (part ∷ parts) none h = by (p part) refl none (λ n. none_pass p q parts n h)
-  where
-    by : (b : Bool) → p part ≡ b → (b || list_any p parts) ≡ false → (list_any p parts ≡ false → filter q parts ≡ []) → filter q (part ∷ parts) ≡ []
-    by true e n rest = absurd (false≢true (sym n))
-    by false e n rest = ap (λ b. cond b (part ∷ filter q parts) (filter q parts)) (h part e) ∙ rest n
+use Rattle.btr_scrub_copies.specs.Blocks.{own_parts}
+use Rattle.btr_scrub_copies.specs.Fresh.{Failing, first_trusted, fresh, fresh_writes, freshened, is_trusted, lies_behind, reads_doubtful, stale_beside}
+use Rattle.btr_scrub_copies.specs.Fresh.{stale_parts}
+use Rattle.btr_scrub_copies.proofs.Flags.{StandAll, own_are, copies, flagged_counts, flagged_written}
+use Rattle.btr_scrub_copies.proofs.Lists.{any_passes, each_of, filter_none, filter_twice, first_kept, none_kept}
+use Rattle.btr_scrub_copies.proofs.Syncs.{passing_filter}
 
 module _ (failing : Failing) (t : Target) where
   -- ---- no candidate that reads an older image is trusted
@@ -50,21 +36,6 @@ module _ (failing : Failing) (t : Target) where
   older_doubtful : (part : Part) → is_on_older t part ≡ true → is_on_doubtful failing t part ≡ true
   older_doubtful part h = doubtful_device (device_in t.devices (place_at t.chunk part t.at).devid) h
 
-  -- where some part lies on an older image, some lies on one in doubt
-  any_doubtful : (parts : List Part) → list_any (is_on_older t) parts ≡ true → list_any (is_on_doubtful failing t) parts ≡ true
-  any_doubtful [] h = absurd (false≢true h)
-  any_doubtful (part ∷ parts) h = by (is_on_older t part) refl h (λ h. any_doubtful parts h)
-    where
-      either : (b : Bool) → list_any (is_on_doubtful failing t) parts ≡ true → (b || list_any (is_on_doubtful failing t) parts) ≡ true
-      either true e = refl
-      either false e = e
-
-      by : (b : Bool) → is_on_older t part ≡ b → (b || list_any (is_on_older t) parts) ≡ true
-          → (list_any (is_on_older t) parts ≡ true → list_any (is_on_doubtful failing t) parts ≡ true)
-          → list_any (is_on_doubtful failing t) (part ∷ parts) ≡ true
-      by true e h rest = ap (λ b. b || list_any (is_on_doubtful failing t) parts) (older_doubtful part e)
-      by false e h rest = either (is_on_doubtful failing t part) (rest h)
-
   and_not : (a b : Bool) → b ≡ true → (a && not b) ≡ false
   and_not true true e = refl
   and_not true false e = absurd (false≢true e)
@@ -72,42 +43,32 @@ module _ (failing : Failing) (t : Target) where
 
   -- a candidate that reads an older image isn't trusted
   not_trusted : (c : Candidate) → reads_older t c ≡ true → is_trusted failing t c ≡ false
-  not_trusted c h = and_not (stands t c) (reads_doubtful failing t c) (any_doubtful (parts_read (slice_count t) t.at.index c) h)
+  not_trusted c h = and_not (stands t c) (reads_doubtful failing t c)
+      (any_passes (is_on_older t) (is_on_doubtful failing t) (parts_read (slice_count t) t.at.index c) older_doubtful h)
 
-  -- the candidates that read no older image
-  abbrev newest : List Candidate → List Candidate
-  newest cs = filter (λ c. beq (reads_older t c) false) cs
-
-  -- all that are trusted are among these
-  trusted_newest : (cs : List Candidate) → filter (is_trusted failing t) (newest cs) ≡ filter (is_trusted failing t) cs
-  trusted_newest [] = refl
-  trusted_newest (c ∷ cs) = by (reads_older t c) refl (trusted_newest cs)
+  -- one that is trusted reads none
+  trusted_new : (c : Candidate) → is_trusted failing t c ≡ true → beq (reads_older t c) false ≡ true
+  trusted_new c h = by (reads_older t c) refl
     where
-      by : (b : Bool) → reads_older t c ≡ b → filter (is_trusted failing t) (newest cs) ≡ filter (is_trusted failing t) cs
-          → filter (is_trusted failing t) (cond (beq b false) (c ∷ newest cs) (newest cs)) ≡ filter (is_trusted failing t) (c ∷ cs)
-      by true e rest = rest ∙ sym (ap (λ b. cond b (c ∷ filter (is_trusted failing t) cs) (filter (is_trusted failing t) cs)) (not_trusted c e))
-      by false e rest = ap (λ cs. cond (is_trusted failing t c) (c ∷ cs) cs) rest
+      by : (b : Bool) → reads_older t c ≡ b → beq b false ≡ true
+      by true e = absurd (false≢true (sym (not_trusted c e) ∙ h))
+      by false e = refl
 
-  -- the candidates that read an older image
-  abbrev oldest : List Candidate → List Candidate
-  oldest cs = filter (λ c. beq (reads_older t c) true) cs
-
-  -- none of them is trusted
-  trusted_oldest : (cs : List Candidate) → filter (is_trusted failing t) (oldest cs) ≡ []
-  trusted_oldest [] = refl
-  trusted_oldest (c ∷ cs) = by (reads_older t c) refl (trusted_oldest cs)
+  -- none of those that read an older image is trusted
+  none_old : filter (is_trusted failing t) (among t true) ≡ []
+  none_old = filter_none (is_trusted failing t) (among t true) (λ c i.
+      not_trusted c (by (reads_older t c) (passing_filter (λ c. beq (reads_older t c) true) c (ways t) i).1))
     where
-      by : (b : Bool) → reads_older t c ≡ b → filter (is_trusted failing t) (oldest cs) ≡ []
-          → filter (is_trusted failing t) (cond (beq b true) (c ∷ oldest cs) (oldest cs)) ≡ []
-      by true e rest =
-          ap (λ b. cond b (c ∷ filter (is_trusted failing t) (oldest cs)) (filter (is_trusted failing t) (oldest cs))) (not_trusted c e) ∙ rest
-      by false e rest = rest
+      by : (b : Bool) → beq b true ≡ true → b ≡ true
+      by true e = refl
+      by false e = e
 
   -- so the trusted ones come in the order of the profile
   pub trusted_ways : filter (is_trusted failing t) (candidates t) ≡ filter (is_trusted failing t) (ways t)
   trusted_ways = filter-append (is_trusted failing t) (among t false) (among t true)
-      ∙ ap (λ cs. cs ++ filter (is_trusted failing t) (among t true)) (trusted_newest (ways t))
-      ∙ ap (λ cs. filter (is_trusted failing t) (ways t) ++ cs) (trusted_oldest (ways t)) ∙ append-nil (filter (is_trusted failing t) (ways t))
+      ∙ ap (λ cs. cs ++ filter (is_trusted failing t) (among t true))
+      (filter_twice (is_trusted failing t) (λ c. beq (reads_older t c) false) (ways t) trusted_new)
+      ∙ ap (λ cs. filter (is_trusted failing t) (ways t) ++ cs) none_old ∙ append-nil (filter (is_trusted failing t) (ways t))
 
   -- ---- of copies, which all stand
 
@@ -120,52 +81,45 @@ module _ (failing : Failing) (t : Target) where
       by true = refl
       by false = refl
 
-  -- the trusted ones of some copies
-  abbrev trusted_from : ℕ → ℕ → List Candidate
-  trusted_from a len = filter (is_trusted failing t) (map (λ copy. Read (Mirror copy)) (range_with_len a len))
-
-  -- where all of them lie on images in doubt, there are none
-  none_trusted : (a len : ℕ) → StandAll t a len → ((k : ℕ) → a ≤ k → k < a + len → is_on_doubtful failing t (Mirror k) ≡ true) → trusted_from a len ≡ []
-  none_trusted a zero s h = refl
-  none_trusted a (suc len) s h =
-      ap (λ b. cond b (Read (Mirror a) ∷ trusted_from (a + 1) len) (trusted_from (a + 1) len))
-      (trusted_copy a (s a (omega arith) (omega arith)) true (h a (omega arith) (omega arith)))
-      ∙ none_trusted (a + 1) len (λ k l u. s k (omega (arith, l)) (omega (arith, u))) (λ k l u. h k (omega (arith, l)) (omega (arith, u)))
-
   module _ (n : ℕ) (has : mirrors t.chunk ≡ Some n) where
+    -- the first n copies, each read alone
+    abbrev reads : ℕ → List Candidate
+    reads n = map (λ copy. Read (Mirror copy)) (range_with_len 0 n)
+
+    -- where the first copies lie on images in doubt, none of them is trusted
+    none_trusted : (n : ℕ) → StandAll t n → ((k : ℕ) → k < n → is_on_doubtful failing t (Mirror k) ≡ true) → filter (is_trusted failing t) (reads n) ≡ []
+    none_trusted n stand all = filter_none (is_trusted failing t) (reads n) (each_of (λ copy. Read (Mirror copy))
+        (λ c. is_trusted failing t c ≡ false) n (λ k lt. trusted_copy k (stand k lt) true (all k lt)))
+
     -- the first trusted candidate is the first trusted copy
-    first_of_copies : first_trusted failing t ≡ slice_get (trusted_from 0 n) 0
-    first_of_copies = ap (λ cs. slice_get cs 0) trusted_ways ∙ ap (λ cs. slice_get (filter (is_trusted failing t) cs) 0) (with_copies t n has)
+    first_of_copies : first_trusted failing t ≡ slice_get (filter (is_trusted failing t) (reads n)) 0
+    first_of_copies = ap (λ cs. slice_get cs 0) (trusted_ways ∙ ap (filter (is_trusted failing t)) (with_copies t n has))
 
     -- the first copy on no image in doubt is the first candidate that is trusted
-    pub trusted_at : StandAll t 0 n → (m : ℕ) → m < n → ((k : ℕ) → k < m → is_on_doubtful failing t (Mirror k) ≡ true)
+    pub trusted_at : StandAll t n → (m : ℕ) → m < n → ((k : ℕ) → k < m → is_on_doubtful failing t (Mirror k) ≡ true)
         → is_on_doubtful failing t (Mirror m) ≡ false → first_trusted failing t ≡ Some (mirror_candidate m)
     trusted_at stand m lt before is =
         let f = λ (copy : ℕ). mirror_candidate copy in
-        let none : filter (is_trusted failing t) (take m (map f (range_with_len 0 n))) ≡ [] =
-        ap (filter (is_trusted failing t)) (take-map-range_with_len f 0 n m (omega (arith, lt)))
-        ∙ none_trusted 0 m (λ k l u. stand k (omega (arith, l)) (omega (arith, u, lt))) (λ k l u. before k (omega (arith, u))) in
-        let there : slice_get (map f (range_with_len 0 n)) m ≡ Some (mirror_candidate m) =
-        slice_get-get_or (map f (range_with_len 0 n)) m (mirror_candidate m) (omega (arith, lt, length-map-range_with_len f 0 n))
-        ∙ ap Some (get_or-map-range_with_len f 0 n m m (mirror_candidate m) lt (omega arith)) in
-        first_of_copies ∙ subst (λ zs. slice_get (trusted_from 0 n) (length zs) ≡ Some (mirror_candidate m)) none
-        (filter_at (is_trusted failing t) (map f (range_with_len 0 n)) m (mirror_candidate m) there
-        (trusted_copy m (stand m (omega arith) (omega (arith, lt))) false is))
+        first_of_copies ∙ first_kept (is_trusted failing t) (reads n) m (mirror_candidate m)
+        (slice_get-get_or (reads n) m (mirror_candidate m) (omega (arith, lt, length-map-range_with_len f 0 n))
+        ∙ ap Some (get_or-map-range_with_len f 0 n m m (mirror_candidate m) lt (omega arith)))
+        (ap (filter (is_trusted failing t)) (take-map-range_with_len f 0 n m (omega (arith, lt)))
+        ∙ none_trusted m (λ k l. stand k (omega (arith, l, lt))) before) (trusted_copy m (stand m lt) false is)
 
     -- where all copies lie on images in doubt, no candidate is trusted
-    pub trusted_none : StandAll t 0 n → ((k : ℕ) → k < n → is_on_doubtful failing t (Mirror k) ≡ true) → first_trusted failing t ≡ None
-    trusted_none stand all = first_of_copies ∙ ap (λ cs. slice_get cs 0) (none_trusted 0 n stand (λ k l u. all k (omega (arith, u))))
+    pub trusted_none : StandAll t n → ((k : ℕ) → k < n → is_on_doubtful failing t (Mirror k) ≡ true) → first_trusted failing t ≡ None
+    trusted_none stand all = first_of_copies ∙ ap (λ cs. slice_get cs 0) (none_trusted n stand all)
 
     -- some copy lies on an image that is behind, or none does
     pub behind_at : (m : ℕ) → m < n → is_on_behind failing t (Mirror m) ≡ true → lies_behind failing t ≡ true
     behind_at m lt is = ap (list_any (is_on_behind failing t)) (own_are t n has)
-        ∙ list_any_at (is_on_behind failing t) (map Mirror (range_with_len 0 n)) m (Mirror m) (omega (arith, lt, length-map-range_with_len Mirror 0 n))
+        ∙ list_any_at (is_on_behind failing t) (copies n) m (Mirror m) (omega (arith, lt, length-map-range_with_len Mirror 0 n))
         (ap (is_on_behind failing t) (get_or-map-range_with_len Mirror 0 n m m (Mirror m) lt (omega arith)) ∙ is)
 
     -- where no copy lies on an image that is behind, the sector doesn't
     pub behind_none : ((k : ℕ) → k < n → is_on_behind failing t (Mirror k) ≡ false) → lies_behind failing t ≡ false
     behind_none none = ap (list_any (is_on_behind failing t)) (own_are t n has)
-        ∙ list_any_none (is_on_behind failing t) (map Mirror (range_with_len 0 n)) (λ k d lt.
+        ∙ list_any_none (is_on_behind failing t) (copies n) (λ k d lt.
         let below : k < n = omega (arith, lt, length-map-range_with_len Mirror 0 n) in
         ap (is_on_behind failing t) (get_or-map-range_with_len Mirror 0 n k k d below (omega arith)) ∙ none k below)
 
@@ -178,7 +132,7 @@ module _ (images : Images) (failing : Failing) (t : Target) where
     where
       by : (o : Option (List ℕ)) → option_map_or (stale_beside images failing t) o [] ≡ []
       by None = refl
-      by (Some bytes) = none_pass (is_on_behind failing t) (is_stale images failing t bytes) (own_parts t) none
+      by (Some bytes) = none_kept (is_on_behind failing t) (is_stale images failing t bytes) (own_parts t) none
           (λ part e. ap (λ b. b && not (bytes_eq (element images t part) bytes)) e)
 
   -- nor where no bytes are fresh
@@ -206,31 +160,20 @@ module _ (images : Images) (failing : Failing) (t : Target) where
         ∙ ap (λ ws. record { bad = length (stale_parts images failing t); repaired = length ws; lost = false }) (unstale_writes write)
 
   -- where the fresh bytes are known, and the flags of the stale copies
-  module _ (n : ℕ) (has : mirrors t.chunk ≡ Some n) (bytes : List ℕ) (is : fresh images failing t ≡ Some bytes) (flags : List Bool) (count : ℕ)
+  module _ (n : ℕ) (has : mirrors t.chunk ≡ Some n) (bytes : List ℕ) (is : fresh images failing t ≡ Some bytes) {flags : List Bool} {count : ℕ}
       (are : AreFlagged (is_stale images failing t bytes) n flags count) where
-    -- the stale places are stale copies
-    parts_are : stale_parts images failing t ≡ filter (is_stale images failing t bytes) (map Mirror (range_with_len 0 n))
-    parts_are = ap (λ o. option_map_or (stale_beside images failing t) o []) is ∙ ap (filter (is_stale images failing t bytes)) (own_are t n has)
+    -- the stale places are those that are so beside them
+    parts_are : stale_parts images failing t ≡ stale_beside images failing t bytes
+    parts_are = ap (λ o. option_map_or (stale_beside images failing t) o []) is
 
     -- the fresh bytes are written over them
     writes_as : fresh_writes images failing t ≡ copy_writes t bytes (stale_parts images failing t)
     writes_as = ap (λ o. option_map_or (λ bytes. copy_writes t bytes (stale_parts images failing t)) o []) is
 
-    -- what is written
+    -- that is, over the copies that have a flag
     pub stale_written : copy_writes t bytes (flagged_copies flags n) ≡ fresh_writes images failing t
-    stale_written = ap (copy_writes t bytes) (flags_are (is_stale images failing t bytes) flags 0 n
-        (λ k l u. are.flags k (omega (arith, u))) ∙ sym parts_are) ∙ sym writes_as
-
-    -- as many were counted as are stale
-    number : count ≡ length (stale_parts images failing t)
-    number = are.count ∙ ap length (sym parts_are)
+    stale_written = flagged_written t n has are (stale_parts images failing t) parts_are bytes (fresh_writes images failing t) writes_as
 
     -- what is counted
-    pub stale_counts : StandAll t 0 n → (write : Bool) → mended_copies count write ≡ freshened images failing t write
-    stale_counts stand write = ap (λ c. mended_copies c write) number
-        ∙ ap (λ r. record { bad = length (stale_parts images failing t); repaired = r; lost = false }) (written write)
-      where
-        written : (b : Bool) → cond b (length (stale_parts images failing t)) 0 ≡ length (writes_if b (fresh_writes images failing t))
-        written true = sym (ap length writes_as ∙ ap (λ ps. length (copy_writes t bytes ps)) parts_are
-            ∙ all_written t (is_stale images failing t bytes) bytes 0 n stand ∙ ap length (sym parts_are))
-        written false = refl
+    pub stale_counts : StandAll t n → (write : Bool) → mended_copies count write ≡ freshened images failing t write
+    stale_counts = flagged_counts t n has are (stale_parts images failing t) parts_are bytes (fresh_writes images failing t) writes_as

@@ -1,3 +1,5 @@
+pub mod Common
+pub mod Lists
 pub mod Doing
 pub mod Copied
 pub mod Flags

@@ -1,27 +1,22 @@
 -- Where a copy lies, and a write over it.
-use Rattle.std.proofs.Common.{◌≡◌, ℕ, ◌+◌, ◌<◌, ◌≤◌, Bool, true, false, cond, List, [], ◌∷◌, length, set, Option, Some, None, IsSome, is_some, Result, Ok}
-use Rattle.std.proofs.Common.{leb, le-leb, refl, sym, ap, ◌∙◌, subst, arith}
+use Rattle.std.proofs.Common.{◌≡◌, ℕ, ◌+◌, ◌<◌, ◌≤◌, Bool, true, false, cond, List, [], ◌∷◌, length, set, Option, Some, None, IsSome, is_some, Result, Ok, leb}
+use Rattle.std.proofs.Common.{le-leb, refl, sym, ap, ◌∙◌, subst, arith}
+use Rattle.btr_scrub_copies.proofs.Common.{DoesWrites, IsOfCopy, Layout, Mirror, Range, Seen, Target, Want, copy_writes, device_in, option_map, range_of}
+use Rattle.btr_scrub_copies.proofs.Common.{sought}
 use Rattle.std.proofs.lemmas.Bool.{leb-true}
 use Rattle.std.proofs.lemmas.Option.{same_Some}
 use Rattle.std.specs.List.{Any, cons_option}
-use Rattle.std.specs.Option.{option_map}
 use Rattle.btr_chunk.specs.Mapping.{place_at}
-use Rattle.btr_chunk.specs.declared.place.Part.TheVariants.{Mirror}
-use Rattle.btr_rack.specs.Rack.{Accounts, FailsUnsure, Seen, Slot, Unsyncs, Writes, len_of, range_in}
+use Rattle.btr_rack.specs.Rack.{Accounts, FailsUnsure, Slot, Unsyncs, Writes, len_of, range_in}
 use Rattle.btr_rack.specs.declared.error.RackError.{RackError}
-use Rattle.btr_rack.specs.declared.place.Place.{Place as Range}
-use Rattle.btr_read.specs.Candidates.{Target, range_of, range_on, size_of}
+use Rattle.btr_read.specs.Candidates.{range_on, size_of}
 use Rattle.btr_read.specs.Cause.{LiesIn}
-use Rattle.btr_read.specs.Fate.{sought}
-use Rattle.btr_read.specs.Layout.{AreOpen, Layout, device_in}
+use Rattle.btr_read.specs.Layout.{AreOpen}
 use Rattle.btr_read.specs.Mirror.{HasMirror}
 use Rattle.btr_read.specs.Want as want
 use Rattle.btr_read.specs.declared.device.Device.{Device}
-use Rattle.btr_read.specs.declared.want.Want.{Want}
 use Rattle.btr_read.proofs.Fates.{sought_of}
-use Rattle.btr_scrub_copies.specs.Blocks.{copy_writes}
-use Rattle.btr_scrub_copies.specs.Mending.{IsCopied, IsOfCopy, Overwrites}
-use Rattle.btr_scrub_copies.specs.Writes.{DoesWrites}
+use Rattle.btr_scrub_copies.specs.Mending.{IsCopied, Overwrites}
 use Rattle.btr_scrub_copies.proofs.Wrote.{passed_on, wrote}
 
 -- a range that lies on a device
@@ -65,37 +60,25 @@ placed slots layout w t m place are e at =
     }
 
 -- of a block that has copies
-pub placed_copy : (slots : List Slot) (layout : Layout) (w : Want) (m : ℕ) (place : Range) → AreOpen slots layout.devices → IsCopied layout w
+pub placed_copy : {slots : List Slot} {layout : Layout} {w : Want} (m : ℕ) (place : Range) → AreOpen slots layout.devices → IsCopied layout w
     → ((t : Target) → sought layout w ≡ Ok t → range_of t (Mirror m) ≡ Some place) → IsPlaced slots layout w place
-placed_copy slots layout w m place are c at = placed slots layout w c.target m place are c.is_sought (at c.target c.is_sought)
+placed_copy {slots = slots} {layout = layout} {w = w} m place are c at = placed slots layout w c.target m place are c.is_sought (at c.target c.is_sought)
 
--- a write over a copy
-module _ (t : Target) (m : ℕ) (bytes : List ℕ) (place : Range) (at : range_of t (Mirror m) ≡ Some place) (has : HasMirror m t)
-    (len : place.len ≡ length bytes) where
-  is_range : range_in place.slot place.off (length bytes) ≡ place
-  is_range = ap (range_in place.slot place.off) (sym len)
-
-  -- writing bytes over the copy is one write, at its place
-  one_write : copy_writes t bytes (Mirror m ∷ []) ≡ record { range = range_in place.slot place.off (length bytes); bytes = bytes } ∷ []
-  one_write = ap (λ o. cons_option (option_map (λ (range : Range). record { range = range; bytes = bytes }) o) []) (at ∙ ap Some (sym is_range))
+module _ (t : Target) (m : ℕ) (place : Range) (at : range_of t (Mirror m) ≡ Some place) where
+  -- writing bytes over a copy is one write, at its place
+  one_write : (bytes : List ℕ) → place.len ≡ length bytes
+      → copy_writes t bytes (Mirror m ∷ []) ≡ record { range = range_in place.slot place.off (length bytes); bytes = bytes } ∷ []
+  one_write bytes len = ap (λ o. cons_option (option_map (λ (range : Range). record { range = range; bytes = bytes }) o) [])
+      (at ∙ ap (λ n. Some (range_in place.slot place.off n)) len)
 
   -- the place is a range of the copy
-  of_copy : IsOfCopy t place
-  of_copy = record {
+  of_copy : HasMirror m t → IsOfCopy t place
+  of_copy has = record {
     mirror = m;
     has = has;
     lies = subst (λ o. Any (LiesIn place) (cons_option o [])) (sym at)
         (0, place, omega arith, refl, record { slot = refl; from = omega arith; to = omega arith });
   }
-
-  -- bytes were written over the copy, or some of them, as the rack said
-  wrote_copy : (marks : List Bool) (a b : Seen) → place.slot < length marks → (r : Result (Unit {0}) RackError)
-      → Unsyncs (range_in place.slot place.off (length bytes)) a b → Writes place.slot place.off bytes a.held b.held r
-      → Accounts (range_in place.slot place.off (length bytes)) a.account b.account r → FailsUnsure a.sure r
-      → Overwrites t bytes (Mirror m ∷ []) marks (set marks place.slot true) a b (passed_on place.slot r)
-  wrote_copy marks a b below r unsyncs held account unsure =
-      subst (λ ws. DoesWrites (IsOfCopy t) (λ i. ws) marks (set marks place.slot true) a b (passed_on place.slot r)) (sym one_write)
-      (wrote (IsOfCopy t) place.slot place.off bytes marks a b (subst (IsOfCopy t) (sym is_range) of_copy) below r unsyncs held account unsure)
 
 -- the bytes of a loan were written over a copy, or some of them, as the rack said
 pub wrote_loan : (layout : Layout) (w : Want) (t : Target) (m : ℕ) (place : Range) (own bytes : List ℕ) (marks : List Bool) (a b : Seen)
@@ -106,8 +89,11 @@ pub wrote_loan : (layout : Layout) (w : Want) (t : Target) (m : ℕ) (place : Ra
     → Overwrites t bytes (Mirror m ∷ []) marks (set marks place.slot true) a b (passed_on place.slot r)
 wrote_loan layout w t m place own bytes marks a b are room e at has long same r unsyncs held account unsure =
     let is = placed a.slots layout w t m place are e at in
+    let len = is.len ∙ sym long in
     subst (λ bs. Overwrites t bs (Mirror m ∷ []) marks (set marks place.slot true) a b (passed_on place.slot r)) (same_Some own bytes same)
-    (wrote_copy t m own place at has (is.len ∙ sym long) marks a b (omega (arith, is.slot, room)) r unsyncs held account unsure)
+    (subst (λ ws. DoesWrites (IsOfCopy t) (λ i. ws) marks (set marks place.slot true) a b (passed_on place.slot r)) (sym (one_write t m place at own len))
+    (wrote (IsOfCopy t) place.slot place.off own marks a b (subst (λ n. IsOfCopy t (range_in place.slot place.off n)) len (of_copy t m place at has))
+    (omega (arith, is.slot, room)) r unsyncs held account unsure))
 
 -- bytes that end on a device stand
 pub stands_on : (off len : ℕ) (o : Option Device) (device : Device) → o ≡ Some device → off + len ≤ device.len → IsSome (range_on off len o)

@@ -1,16 +1,12 @@
 -- Syncing one image after another.
-use Rattle.std.proofs.Common.{◌≡◌, ℕ, ◌+◌, ◌<◌, ◌≤◌, Bool, true, false, not, cond, eqb, List, [], ◌∷◌, ◌++◌, length, length-set, get_or, set, Result, Ok, Err}
-use Rattle.std.proofs.Common.{refl, sym, ap, ◌∙◌, subst, inl, inr, arith}
-use Rattle.std.proofs.lemmas.Bool.{false≢true, cases_eq, cases_lt, eq-eqb, eqb-true}
-use Rattle.std.proofs.lemmas.List.{get_or_past, get_or-set_other, get_or-set_same}
-use Rattle.std.specs.List.{filter}
-use Rattle.btr_rack.specs.Rack.{NoneFailed, Seen, in_others, in_slot}
-use Rattle.btr_rack.specs.declared.place.Place.{Place as Range}
-use Rattle.btr_scrub_copies.specs.Writes.{AccountsMend, In}
-use Rattle.btr_scrub_copies.specs.declared.mended.MendFault.{MendFault}
-use Rattle.btr_scrub_copies.specs.declared.mended.MendFault.TheVariants.{Image, Memory}
+use Rattle.std.proofs.Common.{◌≡◌, ℕ, ◌+◌, ◌<◌, ◌≤◌, Bool, true, false, not, cond, eqb, List, [], ◌∷◌, ◌++◌, length, get_or, Ok, Err, refl, sym, ap, ◌∙◌, subst}
+use Rattle.std.proofs.Common.{inl, inr, arith}
+use Rattle.btr_scrub_copies.proofs.Common.{AccountsMend, Image, In, Memory, MendFault, NoneFailed, Range, Seen, cases_lt, false≢true, filter}
+use Rattle.std.proofs.lemmas.Bool.{eq-eqb, eqb-true, ne_eqb}
+use Rattle.btr_rack.specs.Rack.{in_others, in_slot}
 use Rattle.btr_scrub_copies.proofs.Doing.{account_then}
-use Rattle.btr_scrub_copies.specs.Syncing.{AreSynced, IsSync, OnlySyncs, SyncsOne, WaitsBehind, WaitsBehindAll}
+use Rattle.btr_scrub_copies.specs.Syncing.{AreSynced, IsSync, OnlySyncs, SyncsOne, WaitsBehind, WaitsBehindAll, Unmarks}
+use Rattle.btr_scrub_copies.proofs.Lists.{filter_twice}
 
 -- what is kept by a test is one of the list, and passes
 pub passing_filter : {X : Type 0} (p : X → Bool) (x : X) (xs : List X) → In x (filter p xs) → In x xs × (p x ≡ true)
@@ -54,17 +50,8 @@ not_same a b e same = false≢true (sym (ap not (eq-eqb a b same)) ∙ e)
 
 -- the ranges of another slot are as they were behind a sync
 others_slot : (k n : ℕ) → (k ≡ n → ⊥) → (ranges : List Range) → in_slot k (in_others n ranges) ≡ in_slot k ranges
-others_slot k n apart [] = refl
-others_slot k n apart (range ∷ ranges) = by (eqb range.slot n) refl (others_slot k n apart ranges)
-  where
-    other : eqb range.slot n ≡ true → (b : Bool) → eqb range.slot k ≡ b → eqb range.slot k ≡ false
-    other e true same = absurd (apart (sym (eqb-true range.slot k same) ∙ eqb-true range.slot n e))
-    other e false differs = differs
-
-    by : (b : Bool) → eqb range.slot n ≡ b → in_slot k (in_others n ranges) ≡ in_slot k ranges
-        → in_slot k (cond (not b) (range ∷ in_others n ranges) (in_others n ranges)) ≡ in_slot k (range ∷ ranges)
-    by true e rest = rest ∙ sym (ap (λ c. cond c (range ∷ in_slot k ranges) (in_slot k ranges)) (other e (eqb range.slot k) refl))
-    by false e rest = ap (λ rs. cond (eqb range.slot k) (range ∷ rs) rs) rest
+others_slot k n apart ranges = filter_twice (λ range. eqb range.slot k) (λ range. not (eqb range.slot n)) ranges
+    (λ range e. ap not (ne_eqb range.slot n (λ same. apart (sym (eqb-true range.slot k e) ∙ same))))
 
 -- of what was left before, so much is left now
 synced_next : (marks : List Bool) (n : ℕ) (before now left : List Range) → AreSynced marks n before now
@@ -83,45 +70,45 @@ synced_others marks n before now left h is = synced_next marks n before now left
     let f = passing_filter (λ (r : Range). not (eqb r.slot n)) range now (subst (In range) is i) in
     (f.0, λ same. absurd (not_same range.slot n f.1 same)))
 
--- the images of one more mark are synced
-pub synced_more : (marks now : List Bool) (n : ℕ) (a b c : Seen) → SyncedSoFar marks now n a b → SyncsOne (get_or now n false) n b c (Ok tt)
-    → AreSynced marks (n + 1) a.unsynced c.unsynced
-synced_more marks now n a b c h one = by (get_or now n false) (sym (h.left n (omega arith))) one.synced.0
-  where
-    by : (m : Bool) → get_or marks n false ≡ m → c.unsynced ≡ cond m (in_others n b.unsynced) b.unsynced → AreSynced marks (n + 1) a.unsynced c.unsynced
-    by true e is = synced_others marks n a.unsynced b.unsynced c.unsynced h.synced is
-    by false e is = synced_next marks n a.unsynced b.unsynced c.unsynced h.synced
-        (λ range i. (subst (In range) is i, λ same. ap (λ k. get_or marks k false) same ∙ e))
+module _ {marks now : List Bool} {n : ℕ} {a b c : Seen} (h : SyncedSoFar marks now n a b) (one : SyncsOne (get_or now n false) n b c (Ok tt)) where
+  -- the images of one more mark are synced
+  pub synced_more : AreSynced marks (n + 1) a.unsynced c.unsynced
+  synced_more = by (get_or now n false) (sym (h.left n (omega arith))) one.synced.0
+    where
+      by : (m : Bool) → get_or marks n false ≡ m → c.unsynced ≡ cond m (in_others n b.unsynced) b.unsynced → AreSynced marks (n + 1) a.unsynced c.unsynced
+      by true e is = synced_others marks n a.unsynced b.unsynced c.unsynced h.synced is
+      by false e is = synced_next marks n a.unsynced b.unsynced c.unsynced h.synced
+          (λ range i. (subst (In range) is i, λ same. ap (λ k. get_or marks k false) same ∙ e))
 
--- what waits on the images behind it is as it was
-pub behind_more : (marks now : List Bool) (n : ℕ) (a b c : Seen) → SyncedSoFar marks now n a b → SyncsOne (get_or now n false) n b c (Ok tt) → (k : ℕ)
-    → n + 1 ≤ k → in_slot k c.unsynced ≡ in_slot k a.unsynced
-behind_more marks now n a b c h one k le = by (get_or now n false) one.synced.0 ∙ h.behind k (omega (arith, le))
-  where
-    by : (m : Bool) → c.unsynced ≡ cond m (in_others n b.unsynced) b.unsynced → in_slot k c.unsynced ≡ in_slot k b.unsynced
-    by true is = ap (in_slot k) is ∙ others_slot k n (λ same. omega (arith, le, same)) b.unsynced
-    by false is = ap (in_slot k) is
+  -- what waits on the images behind it is as it was
+  pub behind_more : (k : ℕ) → n + 1 ≤ k → in_slot k c.unsynced ≡ in_slot k a.unsynced
+  behind_more k le = by (get_or now n false) one.synced.0 ∙ h.behind k (omega (arith, le))
+    where
+      by : (m : Bool) → c.unsynced ≡ cond m (in_others n b.unsynced) b.unsynced → in_slot k c.unsynced ≡ in_slot k b.unsynced
+      by true is = ap (in_slot k) is ∙ others_slot k n (λ same. omega (arith, le, same)) b.unsynced
+      by false is = ap (in_slot k) is
 
--- one more mark was taken away
-pub taken_more : (marks now : List Bool) (n : ℕ) (a b : Seen) → SyncedSoFar marks now n a b → (k : ℕ) → k < n + 1 → get_or (set now n false) k false ≡ false
-taken_more marks now n a b h k lt = elim (cases_eq k n) [
-  | inl same ↦ elim (cases_lt n (length now)) [
-    | inl below ↦ subst (λ j. get_or (set now n false) j false ≡ false) (sym same) (get_or-set_same now n false false below)
-    | inr past ↦ get_or_past (set now n false) k false (omega (arith, length-set now n false, past, same))
-  ]
-  | inr other ↦ get_or-set_other now n k false false other ∙ h.taken k (omega (arith, lt, other))
-]
+module _ {marks now : List Bool} {n : ℕ} {m : Bool} {a b c : Seen} {fault : MendFault} (h : SyncedSoFar marks now n a b)
+    (one : SyncsOne m n b c (Err fault)) where
+  -- what waits behind a sync that failed
+  pub waits_behind : WaitsBehindAll marks a c (Err fault)
+  waits_behind = of fault one.synced
+    where
+      of : (fault : MendFault) → WaitsBehind m n b c (Err fault) → WaitsBehindAll marks a c (Err fault)
+      of (Image slot) w = rw w.0 (
+        synced_others marks n a.unsynced b.unsynced c.unsynced h.synced w.1,
+        w.2 ∙ (λ i. h.stranded i ++ h.behind n (omega arith) i),
+      )
+      of Memory w = absurd w
 
--- what waits behind a sync that failed
-pub waits_behind : (marks now : List Bool) (n : ℕ) (m : Bool) (a b c : Seen) (fault : MendFault) → SyncedSoFar marks now n a b
-    → WaitsBehind m n b c (Err fault) → WaitsBehindAll marks a c (Err fault)
-waits_behind marks now n m a b c (Image slot) h w = subst (λ s. WaitsBehindAll marks a c (Err (Image s))) (sym w.0) (
-  synced_others marks n a.unsynced b.unsynced c.unsynced h.synced w.1,
-  w.2 ∙ (λ i. h.stranded i ++ h.behind n (omega arith) i),
-)
-waits_behind marks now n m a b c Memory h w = absurd w
+  -- the marks behind it
+  pub unmarked : Unmarks marks now (Err fault)
+  unmarked = of fault one.synced
+    where
+      of : (fault : MendFault) → WaitsBehind m n b c (Err fault) → Unmarks marks now (Err fault)
+      of (Image slot) w = λ k le. h.left k (omega (arith, le, w.0))
+      of Memory w = absurd w
 
--- the account behind one more sync
-pub sync_account : {A : Type 0} (marks now : List Bool) (n : ℕ) (a b c : Seen) (r : Result A MendFault) → SyncedSoFar marks now n a b
-    → AccountsMend IsSync b c r → AccountsMend IsSync a c r
-sync_account marks now n a b c r h k = account_then IsSync a b c r (ap (λ (s : Seen). s.sure) h.only.same) h.account k
+  -- the account behind it
+  pub sync_account : AccountsMend {A = Unit {0}} IsSync a c (Err fault)
+  sync_account = account_then {A = Unit {0}} IsSync a b c (Err fault) (ap (λ (s : Seen). s.sure) h.only.same) h.account one.account

@@ -1,23 +1,19 @@
 -- Writes in two turns, put together.
-use Rattle.std.proofs.Common.{◌≡◌, ◌⊎◌, ℕ, suc, ◌<◌, Bool, true, false, List, [], ◌∷◌, ◌++◌, length, get_or, All, Option, Some, IsSomeAnd, Result}
-use Rattle.std.proofs.Common.{Ok, Err, refl, sym, ap, ◌∙◌, subst, inl, inr, arith, append-nil, IsErrAnd}
+use Rattle.std.proofs.Common.{◌≡◌, ◌⊎◌, ℕ, suc, ◌<◌, Bool, true, false, List, [], ◌∷◌, ◌++◌, length, get_or, All, Option, Some, IsSomeAnd, Result, Ok, Err}
+use Rattle.std.proofs.Common.{refl, sym, ap, ◌∙◌, subst, inl, inr, arith, append-nil, IsErrAnd}
+use Rattle.btr_scrub_copies.proofs.Common.{AccountsMend, AreAmong, DoesWrites, Image, Images, In, IsMarked, IsStopped, LeaveImages, Memory, MendFault}
+use Rattle.btr_scrub_copies.proofs.Common.{NoneFailed, OnlyReads, Range, Seen, Write, cases_lt, false≢true, ranges_of, same_held}
 use Rattle.std.specs.Prelude.{fold}
-use Rattle.std.proofs.lemmas.Bool.{cases_lt, false≢true}
 use Rattle.std.proofs.lemmas.List.{get_or_past}
-use Rattle.std.proofs.lemmas.List.Elements.{All-nil}
-use Rattle.btr_rack.specs.Rack.{NoneFailed, OnlyReads, Seen, in_slot}
-use Rattle.btr_rack.specs.declared.place.Place.{Place as Range}
+use Rattle.btr_rack.specs.Rack.{in_slot}
 use Rattle.btr_read.proofs.Ones.{in_either, in_left, in_right}
-use Rattle.btr_read.proofs.ReadsOn.{same_held}
 use Rattle.btr_read.proofs.Trials.{told, telling}
 use Rattle.btr_scrub_copies.specs.Syncing.{AreMarked, IsSync, IsSyncOr, OnlySyncs, Strands, SyncsIf, SyncsMarked, WaitsBehindAll, plain}
 use Rattle.btr_scrub_copies.specs.Turns.{IsInTurn, TakesTurns, WaitsAt, WaitsInTurn, waiting}
-use Rattle.btr_scrub_copies.specs.Writes.{AccountsMend, AreAmong, DoesWrites, Images, In, IsMarked, IsStopped, IsTorn, LeaveImages, Marks, Write, ranges_of}
 use Rattle.btr_scrub_copies.specs.Writes.{write_on}
-use Rattle.btr_scrub_copies.specs.declared.mended.MendFault.{MendFault}
-use Rattle.btr_scrub_copies.specs.declared.mended.MendFault.TheVariants.{Image, Memory}
-use Rattle.btr_scrub_copies.proofs.Doing.{does_behind, does_failed, does_halt, does_nothing, does_reads, does_then, own_none, stopped_first, some_and, passed}
+use Rattle.btr_scrub_copies.proofs.Doing.{does_behind, does_failed, does_halt, does_reads, does_then, own_none, marks_none, passed, stopped_first}
 use Rattle.btr_scrub_copies.proofs.Syncs.{passing_filter, sync_held}
+use Rattle.btr_scrub_copies.proofs.Lists.{some_and}
 
 -- ---- a rack, whatever waits for a sync
 
@@ -32,9 +28,6 @@ fails_plain P Q a b (Err (Image slot)) weak h = record {
 }
 fails_plain P Q a b r weak h = h
 
-no_marks : Marks [] [] []
-no_marks = record { added = All-nil (λ (r : Range). IsMarked [] r.slot); kept = λ slot m. m }
-
 -- what a call did is the same whatever waits for a sync
 pub does_plain : {A : Type 0} (P Q : Range → Type 0) (f : Images → List Write) (m n : List Bool) (a b : Seen) (r : Result A MendFault)
     → ((range : Range) → P range → Q range) → DoesWrites P f m n a b r → DoesWrites Q f [] [] (plain a) (plain b) r
@@ -43,7 +36,7 @@ does_plain P Q f m n a b r weak h = record {
   only = record { same = ap plain h.only.same; later = h.only.later; same_shut = h.only.same_shut };
   own = own_none a.held f;
   lie = λ range i. absurd i;
-  marked = no_marks;
+  marked = marks_none [];
   held = h.held;
   account = fails_plain P Q a b r weak h.account;
 }
@@ -162,17 +155,6 @@ among_synced m n a b (Err Memory) h range i = absurd h.synced
 pub stopped_whole : (ws : List Write) (images : Images) → IsStopped ws images (fold write_on images ws)
 stopped_whole ws images = record { before = ws; behind = []; place = sym (append-nil ws); stands = inl refl }
 
--- no writes leave the images as they are
-stopped_none : (images left : Images) → IsStopped [] images left → left ≡ images
-stopped_none images left h = by h.before h.behind h.place h.stands
-  where
-    by : (before behind : List Write) → [] ≡ before ++ behind → (left ≡ fold write_on images before)
-        ⊎ IsTorn behind (fold write_on images before) left → left ≡ images
-    by [] [] e (inl same) = same
-    by [] [] e (inr torn) = absurd torn
-    by [] (w ∷ behind) e s = cc
-    by (w ∷ before) behind e s = cc
-
 -- the images behind writes, whatever became of them
 stopped_by : {A : Type 0} (ws : List Write) (images : Images) (held : Option Images) (r : Result A MendFault) → LeaveImages (λ i. ws) (Some images) held r
     → IsSomeAnd held (IsStopped ws images)
@@ -233,176 +215,121 @@ pub turns_passed : {A : Type 0} {P : Range → Type 0} {ws vs : List Write} {m n
     → IsErrAnd r (λ e. e ≡ fault) → TakesTurns {A = A} P ws vs m n a b (Err fault) → TakesTurns P ws vs m n a b r
 turns_passed {P = P} {ws = ws} {vs = vs} {m = m} {n = n} {a = a} {b = b} {r = r} {fault = fault} is h = passed (λ r. TakesTurns P ws vs m n a b r) r fault is h
 
-module _ (P : Range → Type 0) (ws vs : List Write) (m n : List Bool) (a b : Seen) where
-  weak : (range : Range) → P range → IsSyncOr P range
-  weak range p = inr p
+module _ (P : Range → Type 0) (ws vs : List Write) where
+  -- a call that writes, whatever waits for a sync
+  plainly : {A : Type 0} {f : Images → List Write} {m n : List Bool} {a b : Seen} {r : Result A MendFault} → DoesWrites P f m n a b r
+      → DoesWrites (IsSyncOr P) f [] [] (plain a) (plain b) r
+  plainly {f = f} {m = m} {n = n} {a = a} {b = b} {r = r} h = does_plain P (IsSyncOr P) f m n a b r (λ range p. inr p) h
 
-  -- stopped in the first
-  pub turns_first : (A B : Type 0) (e : MendFault) → DoesWrites {A = A} P (λ i. ws) m n a b (Err e) → TakesTurns {A = B} P ws vs m n a b (Err e)
-  turns_first A B e h = record {
-    does = does_halt (IsSyncOr P) A B ws vs [] [] (plain a) (plain b) e (does_plain {A = A} P (IsSyncOr P) (λ i. ws) m n a b (Err e) weak h);
-    waits = told a.held (λ images. WaitsInTurn ws vs images a b) (λ images is. record {
-      own = h.ranges;
-      among = among_after P (λ i. ws) m n a b (Err e) h;
-      turn = some_and (IsStopped ws images) (λ left. IsInTurn ws vs images left h.ranges) b.held
-          (λ left s. inl (s, telling a.held (λ i. AreAmong h.ranges (ranges_of ws)) h.own images is))
-          (stopped_by {A = A} ws images b.held (Err e) (subst (λ o. LeaveImages {A = A} (λ i. ws) o b.held (Err e)) is h.held));
-    });
-    lie = waits_at P (λ i. ws) m n a b (Err e) h;
-    marked = marked_after P (λ i. ws) m n a b (Err e) h;
-    stranded = strands_none {A = B} (Err e) a.never_synced b.never_synced (same_never P (λ i. ws) m n a b (Err e) h);
+  -- turns whose own ranges lie at such places, where all that waits waited before or is one of them
+  turns_by : {A : Type 0} {m n : List Bool} {a z : Seen} {r : Result A MendFault} (own : List Range)
+      → DoesWrites (IsSyncOr P) (λ i. ws ++ vs) [] [] (plain a) (plain z) r → AreAmong (waiting z) (waiting a ++ own)
+      → ((range : Range) → In range own → P range)
+      → ((images : Images) → a.held ≡ Some images → IsSomeAnd z.held (λ left. IsInTurn ws vs images left own))
+      → (AreMarked m a.unsynced → AreMarked n z.unsynced) → Strands a.never_synced z.never_synced r → TakesTurns P ws vs m n a z r
+  turns_by {a = a} {z = z} own does among lie turn marked stranded = record {
+    does = does;
+    waits = told a.held (λ images. WaitsInTurn ws vs images a z) (λ images is. record { own = own; among = among; turn = turn images is });
+    lie = λ range i. elim (in_either range (waiting a) own (among range i)) as (λ _. In range (waiting a) ⊎ P range) [
+      | inl j ↦ inl j
+      | inr j ↦ inr (lie range j)
+    ];
+    marked = marked;
+    stranded = stranded;
   }
 
-  module _ {U : Type 0} (u : U) (first : DoesWrites P (λ i. ws) m n a b (Ok u)) (o : List Bool) (d : Seen) where
+  -- writes of one call, which are those of a turn
+  turns_of : {A B : Type 0} {us : List Write} {m n : List Bool} {a b : Seen} {r : Result A MendFault} {q : Result B MendFault}
+      (h : DoesWrites P (λ i. us) m n a b r) → DoesWrites (IsSyncOr P) (λ i. ws ++ vs) [] [] (plain a) (plain b) q
+      → ((images left : Images) → IsStopped us images left → AreAmong h.ranges (ranges_of us) → IsInTurn ws vs images left h.ranges)
+      → TakesTurns P ws vs m n a b q
+  turns_of {us = us} {m = m} {n = n} {a = a} {b = b} {r = r} {q = q} h does turn =
+      turns_by h.ranges does (among_after P (λ i. us) m n a b r h) h.lie
+      (λ images is. some_and (IsStopped us images) (λ left. IsInTurn ws vs images left h.ranges) b.held
+      (λ left t. turn images left t (telling a.held (λ i. AreAmong h.ranges (ranges_of us)) h.own images is))
+      (stopped_by us images b.held r (rw is at h.held)))
+      (marked_after P (λ i. us) m n a b r h) (strands_none q a.never_synced b.never_synced (same_never P (λ i. us) m n a b r h))
+
+  -- stopped in the first
+  pub turns_first : {A B : Type 0} {m n : List Bool} {a b : Seen} {e : MendFault} → DoesWrites {A = A} P (λ i. ws) m n a b (Err e)
+      → TakesTurns {A = B} P ws vs m n a b (Err e)
+  turns_first {A = A} {B = B} {a = a} {b = b} {e = e} h =
+      turns_of h (does_halt (IsSyncOr P) A B ws vs [] [] (plain a) (plain b) e (plainly h)) (λ images left t own. inl (t, own))
+
+  -- where one of the turns is empty, there is only one
+  turns_alone : {A : Type 0} {m n : List Bool} {a b : Seen} {r : Result A MendFault} → (ws ≡ []) ⊎ (vs ≡ []) → DoesWrites P (λ i. ws ++ vs) m n a b r
+      → TakesTurns P ws vs m n a b r
+  turns_alone empty h = turns_of h (plainly h) (λ images left t own. by images left h.ranges empty t own)
+    where
+      by : (images left : Images) (own : List Range) → (ws ≡ []) ⊎ (vs ≡ []) → IsStopped (ws ++ vs) images left → AreAmong own (ranges_of (ws ++ vs))
+          → IsInTurn ws vs images left own
+      by images left own (inl none) =
+          subst (λ us. IsStopped (us ++ vs) images left → AreAmong own (ranges_of (us ++ vs)) → IsInTurn us vs images left own) (sym none) (λ t o. inr (t, o))
+      by images left own (inr none) =
+          subst (λ us. IsStopped (ws ++ us) images left → AreAmong own (ranges_of (ws ++ us)) → IsInTurn ws us images left own) (sym none)
+          (subst (λ us. IsStopped us images left → AreAmong own (ranges_of us) → IsInTurn ws [] images left own) (sym (append-nil ws)) (λ t o. inl (t, o)))
+
+  module _ {U : Type 0} {u : U} {m n : List Bool} {a b : Seen} (first : DoesWrites P (λ i. ws) m n a b (Ok u)) where
     -- the images hold all that the first turn wrote
     done : (images : Images) → a.held ≡ Some images → b.held ≡ Some (fold write_on images ws)
-    done images is = subst (λ o. LeaveImages {A = U} {E = MendFault} (λ i. ws) o b.held (Ok u)) is first.held
+    done images is = rw is at first.held
 
-    -- what waits of the first turn are ranges of it
-    first_own : (images : Images) → a.held ≡ Some images → AreAmong first.ranges (ranges_of ws)
-    first_own images is = telling a.held (λ i. AreAmong first.ranges (ranges_of ws)) first.own images is
+    -- the first turn, and a sync behind it
+    synced : {o : List Bool} {d : Seen} {r : Result (Unit {0}) MendFault} → SyncsMarked n o b d r
+        → DoesWrites (IsSyncOr P) (λ i. ws) [] [] (plain a) (plain d) r
+    synced {o = o} {d = d} {r = r} s = subst (λ us. DoesWrites (IsSyncOr P) (λ i. us) [] [] (plain a) (plain d) r) (append-nil ws)
+        (does_then (IsSyncOr P) (Unit {0}) U ws [] [] [] [] (plain a) (plain b) (plain d) u r (plainly first) (does_sync P n o b d r s))
 
-    -- the sync failed
-    turns_unsynced : (B : Type 0) (e : MendFault) → SyncsMarked n o b d (Err e) → TakesTurns {A = B} P ws vs m o a d (Err e)
-    turns_unsynced B e s = record {
-      does = does_halt (IsSyncOr P) (Unit {0}) B ws vs [] [] (plain a) (plain d) e
-          (subst (λ qs. DoesWrites {A = Unit {0}} (IsSyncOr P) (λ i. qs) [] [] (plain a) (plain d) (Err e)) (append-nil ws)
-          (does_then (IsSyncOr P) (Unit {0}) U ws [] [] [] [] (plain a) (plain b) (plain d) u (Err e)
-          (does_plain P (IsSyncOr P) (λ i. ws) m n a b (Ok u) weak first) (does_sync P n o b d (Err e) s)));
-      waits = told a.held (λ images. WaitsInTurn ws vs images a d) (λ images is. record {
-        own = first.ranges;
-        among = λ range i. among_after P (λ i. ws) m n a b (Ok u) first range (among_synced n o b d (Err e) s range i);
-        turn = subst (λ o. IsSomeAnd o (λ left. IsInTurn ws vs images left first.ranges)) (sym (sync_held b d s.only ∙ done images is))
-            (inl (stopped_whole ws images, first_own images is));
-      });
-      lie = λ range i. waits_at P (λ i. ws) m n a b (Ok u) first range (among_synced n o b d (Err e) s range i);
-      marked = λ all. marked_synced n o b d (Err e) s (marked_after P (λ i. ws) m n a b (Ok u) first all);
-      stranded = strands e s.synced;
-    }
+    -- what was marked still is behind the sync
+    still_marked : {o : List Bool} {d : Seen} {r : Result (Unit {0}) MendFault} → SyncsMarked n o b d r → AreMarked m a.unsynced → AreMarked o d.unsynced
+    still_marked {o = o} {d = d} {r = r} s all = marked_synced n o b d r s (marked_after P (λ i. ws) m n a b (Ok u) first all)
+
+    never : b.never_synced ≡ a.never_synced
+    never = same_never P (λ i. ws) m n a b (Ok u) first
+
+    -- the sync was wanted, and failed
+    pub turns_failed : {B : Type 0} {e : MendFault} {o : List Bool} {d : Seen} (wanted : Bool) → SyncsIf wanted n o b d (Err e)
+        → TakesTurns {A = B} P ws vs m o a d (Err e)
+    turns_failed false s = cc (s.0)
+    turns_failed {B = B} {e = e} {o = o} {d = d} true s = turns_by first.ranges
+        (does_halt (IsSyncOr P) (Unit {0}) B ws vs [] [] (plain a) (plain d) e (synced s))
+        (λ range i. among_after P (λ i. ws) m n a b (Ok u) first range (among_synced n o b d (Err e) s range i)) first.lie
+        (λ images is. rw (sync_held b d s.only ∙ done images is)
+        (inl (stopped_whole ws images, telling a.held (λ i. AreAmong first.ranges (ranges_of ws)) first.own images is)))
+        (still_marked s) (strands e s.synced)
       where
-        never : b.never_synced ≡ a.never_synced
-        never = same_never P (λ i. ws) m n a b (Ok u) first
-
         strands : (e : MendFault) → WaitsBehindAll n b d (Err e) → Strands {A = B} a.never_synced d.never_synced (Err e)
         strands (Image slot) k = (b.unsynced, k.1 ∙ ap (λ before. before ++ in_slot slot b.unsynced) never)
         strands Memory k = absurd k
 
-    -- the sync was wanted, and failed
-    pub turns_failed : (wanted : Bool) (B : Type 0) (e : MendFault) → SyncsIf wanted n o b d (Err e) → TakesTurns {A = B} P ws vs m o a d (Err e)
-    turns_failed true B e s = turns_unsynced B e s
-    turns_failed false B e s = cc (s.0)
-
-    module _ {A : Type 0} (q : List Bool) (z : Seen) (r : Result A MendFault) (second : DoesWrites P (λ i. vs) o q d z r) where
-      -- both turns together are all writes, or those up to a call that failed
-      all_done : DoesWrites (IsSyncOr P) (λ i. []) [] [] (plain b) (plain d) (Ok (tt {0})) → DoesWrites (IsSyncOr P) (λ i. ws ++ vs) [] [] (plain a) (plain z) r
-      all_done between =
-          subst (λ qs. DoesWrites (IsSyncOr P) (λ i. qs ++ vs) [] [] (plain a) (plain z) r) (append-nil ws)
-          (does_then (IsSyncOr P) A (Unit {0}) (ws ++ []) vs [] [] [] (plain a) (plain d) (plain z) tt r
-          (does_then (IsSyncOr P) (Unit {0}) U ws [] [] [] [] (plain a) (plain b) (plain d) u (Ok tt)
-          (does_plain P (IsSyncOr P) (λ i. ws) m n a b (Ok u) weak first) between)
-          (does_plain P (IsSyncOr P) (λ i. vs) o q d z r weak second))
-
-      -- what waits of the second turn are ranges of it
-      second_own : (images : Images) → d.held ≡ Some images → AreAmong second.ranges (ranges_of vs)
-      second_own images is = telling d.held (λ i. AreAmong second.ranges (ranges_of vs)) second.own images is
-
-      -- the second turn was stopped, or is whole
-      second_stopped : (images : Images) → d.held ≡ Some images → IsSomeAnd z.held (IsStopped vs images)
-      second_stopped images is = stopped_by vs images z.held r (subst (λ o. LeaveImages (λ i. vs) o z.held r) is second.held)
-
-      -- behind the sync
-      turns_synced : SyncsMarked n o b d (Ok tt) → TakesTurns P ws vs m q a z r
-      turns_synced s = record {
-        does = all_done (does_sync P n o b d (Ok tt) s);
-        waits = told a.held (λ images. WaitsInTurn ws vs images a z) (λ images is.
-            let now : d.held ≡ Some (fold write_on images ws) = sync_held b d s.only ∙ done images is in
-            record {
-              own = second.ranges;
-              among = λ range i. elim (in_either range (waiting d) second.ranges (among_after P (λ i. vs) o q d z r second range i)) [
-                | inl j ↦ in_left range (waiting a) second.ranges (before range j)
-                | inr j ↦ in_right range (waiting a) second.ranges j
-              ];
-              turn = some_and (IsStopped vs (fold write_on images ws)) (λ left. IsInTurn ws vs images left second.ranges) z.held
-                  (λ left t. inr (t, second_own (fold write_on images ws) now)) (second_stopped (fold write_on images ws) now);
-            });
-        lie = λ range i. elim (waits_at P (λ i. vs) o q d z r second range i) as (λ _. In range (waiting a) ⊎ P range) [
-          | inl j ↦ inl (before range j)
-          | inr p ↦ inr p
-        ];
-        marked = λ all. marked_after P (λ i. vs) o q d z r second (marked_synced n o b d (Ok tt) s (marked_after P (λ i. ws) m n a b (Ok u) first all));
-        stranded = strands_none r a.never_synced z.never_synced
-            (same_never P (λ i. vs) o q d z r second ∙ s.synced.1 ∙ same_never P (λ i. ws) m n a b (Ok u) first);
-      }
-        where
-          -- none of what the first turn wrote waits any more
-          before : AreAmong (waiting d) (waiting a)
-          before range i = elim (in_either range d.unsynced d.never_synced i) [
-            | inl j ↦ let among = s.synced.0.among range j in
-                elim (in_either range a.unsynced first.ranges (subst (In range) (now_waits P (λ i. ws) m n a b (Ok u) first) among.0)) [
-                  | inl k ↦ in_left range a.unsynced a.never_synced k
-                  | inr k ↦ let marked = own_marked P (λ i. ws) m n a b (Ok u) first range k in
-                      absurd (false≢true (sym (among.1 (marked_below n range.slot marked)) ∙ marked))
-                ]
-            | inr j ↦ in_right range a.unsynced a.never_synced (subst (In range) (s.synced.1 ∙ same_never P (λ i. ws) m n a b (Ok u) first) j)
+    -- none of what the first turn wrote waits any more behind the sync
+    before : {o : List Bool} {d : Seen} → SyncsMarked n o b d (Ok tt) → AreAmong (waiting d) (waiting a)
+    before {d = d} s range i = elim (in_either range d.unsynced d.never_synced i) [
+      | inl j ↦ let among = s.synced.0.among range j in
+          elim (in_either range a.unsynced first.ranges (subst (In range) (now_waits P (λ i. ws) m n a b (Ok u) first) among.0)) [
+            | inl k ↦ in_left range a.unsynced a.never_synced k
+            | inr k ↦ let marked = own_marked P (λ i. ws) m n a b (Ok u) first range k in
+                absurd (false≢true (sym (among.1 (marked_below n range.slot marked)) ∙ marked))
           ]
+      | inr j ↦ in_right range a.unsynced a.never_synced (subst (In range) (s.synced.1 ∙ never) j)
+    ]
 
-      -- or behind no sync, where one of the turns is empty
-      turns_alone : (ws ≡ []) ⊎ (vs ≡ []) → d ≡ b → o ≡ n → TakesTurns P ws vs m q a z r
-      turns_alone empty same marks = record {
-        does = all_done (subst (λ s. DoesWrites (IsSyncOr P) (λ i. []) [] [] (plain b) (plain s) (Ok (tt {0}))) (sym same)
-            (does_nothing (IsSyncOr P) [] (plain b)));
-        waits = told a.held (λ images. WaitsInTurn ws vs images a z) (λ images is.
-            let now : d.held ≡ Some (fold write_on images ws) = ap (λ (s : Seen). s.held) same ∙ done images is in
-            record {
-              own = first.ranges ++ second.ranges;
-              among = among;
-              turn = some_and (IsStopped vs (fold write_on images ws)) (λ left. IsInTurn ws vs images left (first.ranges ++ second.ranges)) z.held
-                  (λ left t. one_turn images left (first_own images is) (second_own (fold write_on images ws) now) t empty)
-                  (second_stopped (fold write_on images ws) now);
-            });
-        lie = λ range i. elim (waits_at P (λ i. vs) o q d z r second range i) as (λ _. In range (waiting a) ⊎ P range) [
-          | inl j ↦ waits_at P (λ i. ws) m n a b (Ok u) first range (subst (λ s. In range (waiting s)) same j)
-          | inr p ↦ inr p
-        ];
-        marked = λ all. marked_after P (λ i. vs) o q d z r second
-            (subst (λ k. AreMarked k d.unsynced) (sym marks)
-            (subst (λ (s : Seen). AreMarked n s.unsynced) (sym same) (marked_after P (λ i. ws) m n a b (Ok u) first all)));
-        stranded = strands_none r a.never_synced z.never_synced
-            (same_never P (λ i. vs) o q d z r second ∙ ap (λ (s : Seen). s.never_synced) same ∙ same_never P (λ i. ws) m n a b (Ok u) first);
-      }
-        where
-          among : AreAmong (waiting z) (waiting a ++ (first.ranges ++ second.ranges))
-          among range i = elim (in_either range (waiting d) second.ranges (among_after P (λ i. vs) o q d z r second range i)) [
-            | inl j ↦ elim (in_either range (waiting a) first.ranges
-                (among_after P (λ i. ws) m n a b (Ok u) first range (subst (λ s. In range (waiting s)) same j))) [
-                  | inl k ↦ in_left range (waiting a) (first.ranges ++ second.ranges) k
-                  | inr k ↦ in_right range (waiting a) (first.ranges ++ second.ranges) (in_left range first.ranges second.ranges k)
-                ]
-            | inr j ↦ in_right range (waiting a) (first.ranges ++ second.ranges) (in_right range first.ranges second.ranges j)
-          ]
-
-          one_turn : (images left : Images) → AreAmong first.ranges (ranges_of ws) → AreAmong second.ranges (ranges_of vs)
-              → IsStopped vs (fold write_on images ws) left → (ws ≡ []) ⊎ (vs ≡ [])
-              → IsInTurn ws vs images left (first.ranges ++ second.ranges)
-          one_turn images left f g t (inl none) = inr (
-            t,
-            λ range i. elim (in_either range first.ranges second.ranges i) [
-              | inl j ↦ absurd (subst (λ qs. In range (ranges_of qs)) none (f range j))
-              | inr j ↦ g range j
-            ],
-          )
-          one_turn images left f g t (inr none) =
-              let whole : left ≡ fold write_on images ws = stopped_none (fold write_on images ws) left
-              (subst (λ qs. IsStopped qs (fold write_on images ws) left) none t) in
-              inl (
-                subst (IsStopped ws images) (sym whole) (stopped_whole ws images),
-                λ range i. elim (in_either range first.ranges second.ranges i) [
-                  | inl j ↦ f range j
-                  | inr j ↦ absurd (subst (λ qs. In range (ranges_of qs)) none (g range j))
-                ],
-              )
-
-      -- two turns, with a sync between them as it is wanted, which it is where there is something in both
-      pub turns_done : (wanted : Bool) → SyncsIf wanted n o b d (Ok tt) → (wanted ≡ false → (ws ≡ []) ⊎ (vs ≡ [])) → TakesTurns P ws vs m q a z r
-      turns_done true s empty = turns_synced s
-      turns_done false s empty = turns_alone (empty refl) s.1 s.2
+    -- two turns, with a sync between them as it is wanted, which it is where there is something in both
+    pub turns_done : {A : Type 0} {o q : List Bool} {d z : Seen} {r : Result A MendFault} (wanted : Bool) → DoesWrites P (λ i. vs) o q d z r
+        → SyncsIf wanted n o b d (Ok tt) → (wanted ≡ false → (ws ≡ []) ⊎ (vs ≡ [])) → TakesTurns P ws vs m q a z r
+    turns_done {A = A} {o = o} {q = q} {z = z} {r = r} false second s empty = turns_alone (empty refl)
+        (does_then P A U ws vs m n q a b z u r first
+        (subst (λ k. DoesWrites P (λ i. vs) k q b z r) s.2 (subst (λ s. DoesWrites P (λ i. vs) o q s z r) s.1 second)))
+    turns_done {A = A} {o = o} {q = q} {d = d} {z = z} {r = r} true second s empty = turns_by second.ranges
+        (does_then (IsSyncOr P) A (Unit {0}) ws vs [] [] [] (plain a) (plain d) (plain z) tt r (synced s) (plainly second))
+        (λ range i. elim (in_either range (waiting d) second.ranges (among_after P (λ i. vs) o q d z r second range i)) [
+          | inl j ↦ in_left range (waiting a) second.ranges (before s range j)
+          | inr j ↦ in_right range (waiting a) second.ranges j
+        ]) second.lie
+        (λ images is.
+        let now : d.held ≡ Some (fold write_on images ws) = sync_held b d s.only ∙ done images is in
+        let own = telling d.held (λ i. AreAmong second.ranges (ranges_of vs)) second.own (fold write_on images ws) now in
+        some_and (IsStopped vs (fold write_on images ws)) (λ left. IsInTurn ws vs images left second.ranges) z.held (λ left t. inr (t, own))
+        (stopped_by vs (fold write_on images ws) z.held r (rw now at second.held)))
+        (λ all. marked_after P (λ i. vs) o q d z r second (still_marked s all))
+        (strands_none r a.never_synced z.never_synced (same_never P (λ i. vs) o q d z r second ∙ s.synced.1 ∙ never))

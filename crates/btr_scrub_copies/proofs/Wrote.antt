@@ -1,16 +1,15 @@
 -- One write, by what the rack said of it.
-use Rattle.std.proofs.Common.{◌≡◌, ℕ, ◌<◌, Bool, true, false, List, [], ◌∷◌, length, get_or, set, Option, Some, None, IfSome, IsSomeAnd, Result, Ok, Err}
-use Rattle.std.proofs.Common.{refl, sym, ◌∙◌, subst, inl, inr, arith}
+use Rattle.std.proofs.Common.{◌≡◌, ℕ, ◌<◌, Bool, true, false, List, [], ◌∷◌, length, get_or, set, Option, Some, None, IfSome, IsSomeAnd, Result, Ok, Err, refl}
+use Rattle.std.proofs.Common.{sym, ◌∙◌, subst, inl, inr, arith}
+use Rattle.btr_scrub_copies.proofs.Common.{AccountsMend, AreAmong, DoesWrites, Image, Images, In, IsMarked, IsStopped, LeaveImages, Memory, MendFault, Range}
+use Rattle.btr_scrub_copies.proofs.Common.{Seen, Write, get_or-set_other, ranges_of}
 use Rattle.std.proofs.lemmas.Bool.{cases_eq}
-use Rattle.std.proofs.lemmas.List.{get_or-set_other, get_or-set_same}
+use Rattle.std.proofs.lemmas.List.{get_or-set_same}
 use Rattle.std.proofs.lemmas.List.Elements.{All-cons, All-nil}
-use Rattle.btr_rack.specs.Rack.{Accounts, FailsUnsure, Seen, Unsyncs, Writes, range_in, written}
+use Rattle.btr_rack.specs.Rack.{Accounts, FailsUnsure, Unsyncs, Writes, range_in, written}
 use Rattle.btr_rack.specs.declared.error.RackError.{RackError}
 use Rattle.btr_rack.specs.declared.error.RackError.TheVariants as error
-use Rattle.btr_rack.specs.declared.place.Place.{Place as Range}
-use Rattle.btr_scrub_copies.specs.Writes.{AccountsMend, AreAmong, DoesWrites, Images, In, IsMarked, IsStopped, LeaveImages, Marks, OnlyWrites, Write, ranges_of}
-use Rattle.btr_scrub_copies.specs.declared.mended.MendFault.{MendFault}
-use Rattle.btr_scrub_copies.specs.declared.mended.MendFault.TheVariants.{Image, Memory}
+use Rattle.btr_scrub_copies.specs.Writes.{Marks, OnlyWrites}
 
 -- the answer that passes on what the rack said of a call on a slot
 abbrev pub passed_on : ℕ → Result (Unit {0}) RackError → Result (Unit {0}) MendFault

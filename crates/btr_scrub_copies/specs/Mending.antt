@@ -124,6 +124,6 @@ MendsWant store want write marks marks' old new result = (t : Target) → sought
 -- the bytes of a loan were written over its bad copies, or these were only counted
 abbrev pub MendsBad : Blocks → JudgedCopies → Lent → Bool → List Bool → List Bool → Seen → Seen → Result Mended MendFault → Type 0
 MendsBad store judged loan write marks marks' old new result =
-    (t : Target) (bytes : List ℕ) → sought store.layout judged.want.now ≡ Ok t → block_of store loan ≡ Some bytes
-    → Repairs t write (λ images. copy_writes t bytes (flagged_copies judged.bad.flags judged.copies)) (λ images. mended_copies judged.bad.count write)
+    (t : Target) (bytes : List ℕ) → sought store.layout judged.block.want.now ≡ Ok t → block_of store loan ≡ Some bytes
+    → Repairs t write (λ images. copy_writes t bytes (flagged_copies judged.bad.flags judged.block.copies)) (λ images. mended_copies judged.bad.count write)
     marks marks' old new result

@@ -13,6 +13,7 @@ ghost use Rattle.btr_scrub_copies.specs.Mending.{AccountsCopies, AreBad, FindsFi
 
 use crate::MendFault;
 use crate::comparing::same_bytes;
+use crate::copied_block::CopiedBlock;
 use btr_rack::Rack;
 use btr_read::{Loan, Store, Tried, TryFault, Want, try_mirror, way_at};
 
@@ -32,26 +33,25 @@ pub(crate) struct Bad {
 
 // Lends the first copy that passes, in the order of the candidates, if one does.
 pub(crate) fn first_good<R: Rack>(
-    want: &Want,
-    copies: u32,
+    block: &CopiedBlock<'_>,
     rack: &mut R,
     store: &mut Store,
 ) -> Result<Option<First>, MendFault>
     requires serves { Serves (R.seen rack.old) store.old }
     requires room { 1 ≤ free_count store.old }
-    requires copied { IsCopied store.old.layout want.now }
-    requires copies { (t : Target) → sought store.old.layout want.now ≡ Ok t → mirrors t.chunk ≡ Some copies }
+    requires copied { IsCopied store.old.layout block.now.want.now }
+    requires copies { (t : Target) → sought store.old.layout block.now.want.now ≡ Ok t → mirrors t.chunk ≡ Some block.now.copies }
     ensures serves { Serves (R.seen rack.new) store.new }
     ensures reads { OnlyReads (R.seen rack.old) (R.seen rack.new) }
-    ensures lent { LendsFirst want.now store.old store.new result }
-    ensures found { InTold store.old want.now (R.seen rack.old)
+    ensures lent { LendsFirst block.now.want.now store.old store.new result }
+    ensures found { InTold store.old block.now.want.now (R.seen rack.old)
         (λ images t. FindsFirst images t store.new result) }
-    ensures below { IfOk result (λ found. IfSome found (λ first. first.mirror < copies)) }
-    ensures account { AccountsCopies store.old want.now (R.seen rack.old) (R.seen rack.new) result }
+    ensures below { IfOk result (λ found. IfSome found (λ first. first.mirror < block.now.copies)) }
+    ensures account { AccountsCopies store.old block.now.want.now (R.seen rack.old) (R.seen rack.new) result }
 {
-    for k in 0..copies {
-        let mirror = way_at(want, k, store);
-        match try_mirror(want, mirror, rack, store) {
+    for k in 0..block.copies {
+        let mirror = way_at(block.want, k, store);
+        match try_mirror(block.want, mirror, rack, store) {
             Ok(Tried::Passed(loan)) => return Ok(Some(First { mirror, loan })),
             Ok(Tried::Differs) => {}
             Ok(Tried::Absent) => unreachable!(),
@@ -134,30 +134,29 @@ pub(crate) fn counted(count: u32, more: bool) -> u32
 
 // The bad copies, where the first that passes is lent.
 pub(crate) fn bad_copies<R: Rack>(
-    want: &Want,
-    copies: u32,
+    block: &CopiedBlock<'_>,
     first: &First,
     rack: &mut R,
     store: &mut Store,
 ) -> Result<Bad, MendFault>
     requires serves { Serves (R.seen rack.old) store.old }
     requires room { 1 ≤ free_count store.old }
-    requires copied { IsCopied store.old.layout want.now }
-    requires few { copies ≤ 4 }
-    requires copies { (t : Target) → sought store.old.layout want.now ≡ Ok t → mirrors t.chunk ≡ Some copies }
+    requires copied { IsCopied store.old.layout block.now.want.now }
+    requires few { block.now.copies ≤ 4 }
+    requires copies { (t : Target) → sought store.old.layout block.now.want.now ≡ Ok t → mirrors t.chunk ≡ Some block.now.copies }
     requires live { IsLiveIn store.old first.now.loan }
-    requires first { InTold store.old want.now (R.seen rack.old) (λ images t. HasFirst images t store.old first.now) }
+    requires first { InTold store.old block.now.want.now (R.seen rack.old) (λ images t. HasFirst images t store.old first.now) }
     ensures serves { Serves (R.seen rack.new) store.new }
     ensures reads { OnlyReads (R.seen rack.old) (R.seen rack.new) }
     ensures same { SameLoans store.old store.new }
-    ensures bad { InTold store.old want.now (R.seen rack.old)
-        (λ images t. IfOk result (λ bad. AreBad images t copies bad.flags bad.count)) }
-    ensures account { AccountsCopies store.old want.now (R.seen rack.old) (R.seen rack.new) result }
+    ensures bad { InTold store.old block.now.want.now (R.seen rack.old)
+        (λ images t. IfOk result (λ bad. AreBad images t block.now.copies bad.flags bad.count)) }
+    ensures account { AccountsCopies store.old block.now.want.now (R.seen rack.old) (R.seen rack.new) result }
 {
     let mut flags = [false; 4];
     let mut count = 0;
-    for mirror in 0..copies {
-        let bad = is_bad(want, mirror, first, rack, store)?;
+    for mirror in 0..block.copies {
+        let bad = is_bad(block.want, mirror, first, rack, store)?;
         flags[mirror as usize] = bad;
         count = counted(count, bad);
     }

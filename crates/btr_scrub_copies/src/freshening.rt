@@ -15,6 +15,7 @@ ghost use Rattle.btr_scrub_copies.specs.Freshening.{FindsFresh, LendsAny, MendsF
 ghost use Rattle.btr_scrub_copies.specs.Mending.{AccountsCopies, AreFlagged, InTold, IsCopied};
 ghost use Rattle.btr_scrub_copies.specs.Writes.{AreWritable};
 
+use crate::copied_block::CopiedBlock;
 use crate::copies::copies_of;
 use crate::finding::{Bad, counted};
 use crate::fresh::{first_trusted, is_on_behind, lies_behind};
@@ -54,24 +55,25 @@ fn lend_copy<R: Rack>(
 
 // Lends the fresh bytes, if there are any.
 fn lend_fresh<R: Rack>(
-    want: &Want,
+    block: &CopiedBlock<'_>,
     failing: &[bool],
     rack: &mut R,
     store: &mut Store,
 ) -> Result<Option<Loan>, MendFault>
     requires serves { Serves (R.seen rack.old) store.old }
     requires room { 1 ≤ free_count store.old }
-    requires copied { IsCopied store.old.layout want.now }
-    requires plain { IsTrue (is_plain want.now) }
+    requires copied { IsCopied store.old.layout block.now.want.now }
+    requires plain { IsTrue (is_plain block.now.want.now) }
+    requires copies { (t : Target) → sought store.old.layout block.now.want.now ≡ Ok t → mirrors t.chunk ≡ Some block.now.copies }
     ensures serves { Serves (R.seen rack.new) store.new }
     ensures reads { OnlyReads (R.seen rack.old) (R.seen rack.new) }
-    ensures lent { LendsAny want.now store.old store.new result }
-    ensures found { InTold store.old want.now (R.seen rack.old)
+    ensures lent { LendsAny block.now.want.now store.old store.new result }
+    ensures found { InTold store.old block.now.want.now (R.seen rack.old)
         (λ images t. FindsFresh images (flagged failing.now) t store.new result) }
-    ensures account { AccountsCopies store.old want.now (R.seen rack.old) (R.seen rack.new) result }
+    ensures account { AccountsCopies store.old block.now.want.now (R.seen rack.old) (R.seen rack.new) result }
 {
-    match first_trusted(want, failing, store) {
-        Some(mirror) => lend_copy(want, mirror, rack, store),
+    match first_trusted(block, failing, store) {
+        Some(mirror) => lend_copy(block.want, mirror, rack, store),
         None => Ok(None),
     }
 }
@@ -140,8 +142,7 @@ fn is_stale<R: Rack>(
 
 // The copies that are stale beside the bytes of a loan.
 fn stale_copies<R: Rack>(
-    want: &Want,
-    copies: u32,
+    block: &CopiedBlock<'_>,
     failing: &[bool],
     loan: &Loan,
     rack: &mut R,
@@ -149,23 +150,23 @@ fn stale_copies<R: Rack>(
 ) -> Result<Bad, MendFault>
     requires serves { Serves (R.seen rack.old) store.old }
     requires room { 1 ≤ free_count store.old }
-    requires copied { IsCopied store.old.layout want.now }
-    requires plain { IsTrue (is_plain want.now) }
-    requires few { copies ≤ 4 }
-    requires copies { (t : Target) → sought store.old.layout want.now ≡ Ok t → mirrors t.chunk ≡ Some copies }
+    requires copied { IsCopied store.old.layout block.now.want.now }
+    requires plain { IsTrue (is_plain block.now.want.now) }
+    requires few { block.now.copies ≤ 4 }
+    requires copies { (t : Target) → sought store.old.layout block.now.want.now ≡ Ok t → mirrors t.chunk ≡ Some block.now.copies }
     requires live { IsLiveIn store.old loan.now }
     ensures serves { Serves (R.seen rack.new) store.new }
     ensures reads { OnlyReads (R.seen rack.old) (R.seen rack.new) }
     ensures same { SameLoans store.old store.new }
-    ensures stale { InTold store.old want.now (R.seen rack.old) (λ images t. IfOk result (λ stale.
+    ensures stale { InTold store.old block.now.want.now (R.seen rack.old) (λ images t. IfOk result (λ stale.
         OfLoan store.old loan.now (λ bytes.
-        AreFlagged (is_stale images (flagged failing.now) t bytes) copies stale.flags stale.count))) }
-    ensures account { AccountsCopies store.old want.now (R.seen rack.old) (R.seen rack.new) result }
+        AreFlagged (is_stale images (flagged failing.now) t bytes) block.now.copies stale.flags stale.count))) }
+    ensures account { AccountsCopies store.old block.now.want.now (R.seen rack.old) (R.seen rack.new) result }
 {
     let mut flags = [false; 4];
     let mut count = 0;
-    for mirror in 0..copies {
-        let stale = is_stale(want, mirror, failing, loan, rack, store)?;
+    for mirror in 0..block.copies {
+        let stale = is_stale(block.want, mirror, failing, loan, rack, store)?;
         flags[mirror as usize] = stale;
         count = counted(count, stale);
     }
@@ -185,21 +186,23 @@ fn mend_stale<R: Rack>(
     requires room { 1 ≤ free_count store.old }
     requires writable { IsTrue write → AreWritable (R.seen rack.old).slots }
     requires slots { length (R.seen rack.old).slots ≤ length marks.old }
-    requires copied { IsCopied store.old.layout sector.now.want.now }
-    requires plain { IsTrue (is_plain sector.now.want.now) }
+    requires copied { IsCopied store.old.layout sector.now.block.want.now }
+    requires plain { IsTrue (is_plain sector.now.block.want.now) }
+    requires few { sector.now.block.copies ≤ 4 }
+    requires copies { (t : Target) → sought store.old.layout sector.now.block.want.now ≡ Ok t
+        → mirrors t.chunk ≡ Some sector.now.block.copies }
     requires live { IsLiveIn store.old loan.now }
-    requires len { loan.now.len ≡ len_of store.old.layout.setting sector.now.want.now }
-    requires fresh { InTold store.old sector.now.want.now (R.seen rack.old)
+    requires len { loan.now.len ≡ len_of store.old.layout.setting sector.now.block.want.now }
+    requires fresh { InTold store.old sector.now.block.want.now (R.seen rack.old)
         (λ images t. block_of store.old loan.now ≡ fresh images (flagged sector.now.failing.now) t) }
     ensures serves { Serves (R.seen rack.new) store.new }
     ensures loans { SameLoans store.old store.new }
-    ensures mends { MendsFresh store.old sector.now.want.now write sector.now.failing.now
+    ensures mends { MendsFresh store.old sector.now.block.want.now write sector.now.failing.now
         marks.old marks.new (R.seen rack.old) (R.seen rack.new) result }
 {
-    let want = sector.want;
-    let copies = copies_of(want, store);
-    let bad = stale_copies(want, copies, sector.failing, loan, rack, store)?;
-    let judged = JudgedCopies { want, copies, bad };
+    let block = sector.block;
+    let bad = stale_copies(&block, sector.failing, loan, rack, store)?;
+    let judged = JudgedCopies { block, bad };
     mend_bad(&judged, write, loan, rack, store, marks)
 }
 
@@ -233,21 +236,23 @@ pub fn mend_plain<R: Rack>(
     ensures mends { MendsFresh store.old want.now write failing.now marks.old marks.new (R.seen rack.old) (R.seen rack.new) result }
     ensures unread { RestsUnread store.old want.now failing.now (R.seen rack.old) (R.seen rack.new) }
 {
-    if !lies_behind(want, failing, store) {
+    let copies = copies_of(want, store);
+    let block = CopiedBlock { want, copies };
+    if !lies_behind(&block, failing, store) {
         return Ok(Mended {
             bad: 0,
             repaired: 0,
             lost: false,
         });
     }
-    match lend_fresh(want, failing, rack, store)? {
+    match lend_fresh(&block, failing, rack, store)? {
         None => Ok(Mended {
             bad: 0,
             repaired: 0,
             lost: false,
         }),
         Some(loan) => {
-            let sector = PlainSector { want, failing };
+            let sector = PlainSector { block, failing };
             let mended = mend_stale(&sector, write, &loan, rack, store, marks);
             store.give(loan);
             mended

@@ -13,6 +13,7 @@
 #![tactic(auto)]
 
 mod comparing;
+mod copied_block;
 mod copies;
 mod doubts;
 mod finding;

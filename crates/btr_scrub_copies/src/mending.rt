@@ -9,6 +9,7 @@ ghost use Rattle.btr_read.specs.Want.{len_of};
 ghost use Rattle.btr_scrub_copies.specs.Mending.{HasFirst, InTold, IsCopied, MendsBad, MendsWant};
 ghost use Rattle.btr_scrub_copies.specs.Writes.{AreWritable};
 
+use crate::copied_block::CopiedBlock;
 use crate::copies::copies_of;
 use crate::finding::{First, bad_copies, first_good};
 use crate::judged_copies::JudgedCopies;
@@ -29,11 +30,11 @@ pub(crate) fn mend_bad<R: Rack>(
     requires serves { Serves (R.seen rack.old) store.old }
     requires writable { IsTrue write → AreWritable (R.seen rack.old).slots }
     requires slots { length (R.seen rack.old).slots ≤ length marks.old }
-    requires copied { IsCopied store.old.layout judged.now.want.now }
-    requires few { judged.now.copies ≤ 4 }
-    requires copies { (t : Target) → sought store.old.layout judged.now.want.now ≡ Ok t → mirrors t.chunk ≡ Some judged.now.copies }
+    requires copied { IsCopied store.old.layout judged.now.block.want.now }
+    requires few { judged.now.block.copies ≤ 4 }
+    requires copies { (t : Target) → sought store.old.layout judged.now.block.want.now ≡ Ok t → mirrors t.chunk ≡ Some judged.now.block.copies }
     requires live { IsLiveIn store.old loan.now }
-    requires len { loan.now.len ≡ len_of store.old.layout.setting judged.now.want.now }
+    requires len { loan.now.len ≡ len_of store.old.layout.setting judged.now.block.want.now }
     ensures serves { Serves (R.seen rack.new) store.new }
     ensures loans { SameLoans store.old store.new }
     ensures mends { MendsBad store.old judged.now loan.now write marks.old marks.new (R.seen rack.old) (R.seen rack.new) result }
@@ -56,7 +57,7 @@ pub(crate) fn mend_bad<R: Rack>(
 
 // Mends a block whose first copy that passes is lent.
 fn mend_others<R: Rack>(
-    want: &Want,
+    block: &CopiedBlock<'_>,
     write: bool,
     first: &First,
     rack: &mut R,
@@ -67,17 +68,18 @@ fn mend_others<R: Rack>(
     requires room { 1 ≤ free_count store.old }
     requires writable { IsTrue write → AreWritable (R.seen rack.old).slots }
     requires slots { length (R.seen rack.old).slots ≤ length marks.old }
-    requires copied { IsCopied store.old.layout want.now }
+    requires copied { IsCopied store.old.layout block.now.want.now }
+    requires few { block.now.copies ≤ 4 }
+    requires copies { (t : Target) → sought store.old.layout block.now.want.now ≡ Ok t → mirrors t.chunk ≡ Some block.now.copies }
     requires live { IsLiveIn store.old first.now.loan }
-    requires len { first.now.loan.len ≡ len_of store.old.layout.setting want.now }
-    requires first { InTold store.old want.now (R.seen rack.old) (λ images t. HasFirst images t store.old first.now) }
+    requires len { first.now.loan.len ≡ len_of store.old.layout.setting block.now.want.now }
+    requires first { InTold store.old block.now.want.now (R.seen rack.old) (λ images t. HasFirst images t store.old first.now) }
     ensures serves { Serves (R.seen rack.new) store.new }
     ensures loans { SameLoans store.old store.new }
-    ensures mends { MendsWant store.old want.now write marks.old marks.new (R.seen rack.old) (R.seen rack.new) result }
+    ensures mends { MendsWant store.old block.now.want.now write marks.old marks.new (R.seen rack.old) (R.seen rack.new) result }
 {
-    let copies = copies_of(want, store);
-    let bad = bad_copies(want, copies, first, rack, store)?;
-    let judged = JudgedCopies { want, copies, bad };
+    let bad = bad_copies(block, first, rack, store)?;
+    let judged = JudgedCopies { block: *block, bad };
     mend_bad(&judged, write, &first.loan, rack, store, marks)
 }
 
@@ -105,14 +107,15 @@ pub fn mend_copies<R: Rack>(
     ensures mends { MendsWant store.old want.now write marks.old marks.new (R.seen rack.old) (R.seen rack.new) result }
 {
     let copies = copies_of(want, store);
-    match first_good(want, copies, rack, store)? {
+    let block = CopiedBlock { want, copies };
+    match first_good(&block, rack, store)? {
         None => Ok(Mended {
             bad: copies,
             repaired: 0,
             lost: true,
         }),
         Some(first) => {
-            let mended = mend_others(want, write, &first, rack, store, marks);
+            let mended = mend_others(&block, write, &first, rack, store, marks);
             let First { mirror: _, loan } = first;
             store.give(loan);
             mended

@@ -59,13 +59,13 @@ fn overwrite_if<R: Rack>(
     requires open { AreOpen (R.seen rack.old).slots store.now.layout.devices }
     requires writable { AreWritable (R.seen rack.old).slots }
     requires slots { length (R.seen rack.old).slots ≤ length marks.old }
-    requires copied { IsCopied store.now.layout judged.now.want.now }
+    requires copied { IsCopied store.now.layout judged.now.block.want.now }
     requires few { mirror < 4 }
-    requires mirror { (t : Target) → sought store.now.layout judged.now.want.now ≡ Ok t → HasMirror mirror t }
+    requires mirror { (t : Target) → sought store.now.layout judged.now.block.want.now ≡ Ok t → HasMirror mirror t }
     requires live { IsLiveIn store.now loan.now }
-    requires len { loan.now.len ≡ len_of store.now.layout.setting judged.now.want.now }
+    requires len { loan.now.len ≡ len_of store.now.layout.setting judged.now.block.want.now }
     ensures slots { (R.seen rack.new).slots ≡ (R.seen rack.old).slots }
-    ensures writes { WritesLoan store.now judged.now.want.now loan.now
+    ensures writes { WritesLoan store.now judged.now.block.want.now loan.now
         (if slice_index_or judged.now.bad.flags mirror false then Mirror mirror ∷ [] else [])
         marks.old marks.new (R.seen rack.old) (R.seen rack.new) result }
 {
@@ -73,7 +73,7 @@ fn overwrite_if<R: Rack>(
     if !bad {
         return Ok(());
     }
-    overwrite(judged.want, mirror, loan, rack, store, marks)
+    overwrite(judged.block.want, mirror, loan, rack, store, marks)
 }
 
 // Writes a loan's bytes over the bad copies, and marks their slots.
@@ -87,16 +87,16 @@ pub(crate) fn write_over<R: Rack>(
     requires open { AreOpen (R.seen rack.old).slots store.now.layout.devices }
     requires writable { AreWritable (R.seen rack.old).slots }
     requires slots { length (R.seen rack.old).slots ≤ length marks.old }
-    requires copied { IsCopied store.now.layout judged.now.want.now }
-    requires few { judged.now.copies ≤ 4 }
-    requires copies { (t : Target) → sought store.now.layout judged.now.want.now ≡ Ok t → mirrors t.chunk ≡ Some judged.now.copies }
+    requires copied { IsCopied store.now.layout judged.now.block.want.now }
+    requires few { judged.now.block.copies ≤ 4 }
+    requires copies { (t : Target) → sought store.now.layout judged.now.block.want.now ≡ Ok t → mirrors t.chunk ≡ Some judged.now.block.copies }
     requires live { IsLiveIn store.now loan.now }
-    requires len { loan.now.len ≡ len_of store.now.layout.setting judged.now.want.now }
+    requires len { loan.now.len ≡ len_of store.now.layout.setting judged.now.block.want.now }
     ensures slots { (R.seen rack.new).slots ≡ (R.seen rack.old).slots }
-    ensures writes { WritesLoan store.now judged.now.want.now loan.now (flagged_copies judged.now.bad.flags judged.now.copies)
+    ensures writes { WritesLoan store.now judged.now.block.want.now loan.now (flagged_copies judged.now.bad.flags judged.now.block.copies)
         marks.old marks.new (R.seen rack.old) (R.seen rack.new) result }
 {
-    for mirror in 0..judged.copies {
+    for mirror in 0..judged.block.copies {
         overwrite_if(judged, mirror, loan, rack, store, marks)?;
     }
     Ok(())

@@ -1,9 +1,9 @@
-use btr_read::Want;
+use crate::copied_block::CopiedBlock;
 
 // A plain sector, which has no checksum.
 #[derive(Clone, Copy)]
 pub(crate) struct PlainSector<'a> {
-    pub(crate) want: &'a Want,
+    pub(crate) block: CopiedBlock<'a>,
     // By slot, on which images some checked block doesn't pass.
     pub(crate) failing: &'a [bool],
 }

@@ -1,5 +1,5 @@
 use Rattle.std.proofs.Common.{◌≡◌, ◌&&◌, drop}
-use Rattle.std.specs.Str.{bytes_eq}
+use Rattle.btr_scrub_copies.proofs.Common.{bytes_eq}
 use Rattle.btr_scrub_copies.proofs.comparing.same_bytes.Given as goal
 
 abbrev pub invariant-loop-i : goal.invariant-loop-i

@@ -1,14 +1,12 @@
 use Rattle.std.proofs.Common.{◌≡◌, true, false, sym, ◌∙◌, subst, arith, rules, inl, inr}
-use Rattle.std.proofs.lemmas.Bool.{cases_lt}
-use Rattle.btr_chunk.specs.declared.place.Part.TheVariants.{Mirror}
-use Rattle.btr_scrub_copies.specs.Fresh.{flagged, is_on_behind}
+use Rattle.btr_scrub_copies.proofs.Common.{Mirror, cases_lt, flagged, is_on_behind}
 use Rattle.btr_scrub_copies.proofs.Freshness.{behind_at, behind_none}
 use Rattle.btr_scrub_copies.proofs.fresh.lies_behind.Goals as goal
 
 pub returns-then-is_on_behind : goal.returns-then-is_on_behind
 returns-then-is_on_behind c t e =
     let lies : c.is_on_behind.result ≡ true = search rules in
-    sym (behind_at (flagged c.args.failing.now) t c.copies_of-mirror-end.result (c.copies_of-mirror-end.ensures.copies t e) c.loop-mirror.mirror
+    sym (behind_at (flagged c.args.failing.now) t c.args.block.now.copies (c.requires.copies t e) c.loop-mirror.mirror
     c.loop-mirror-test.true (sym (c.is_on_behind.ensures t e) ∙ lies))
 
 pub loop-mirror-preserved : goal.loop-mirror-preserved
@@ -21,5 +19,5 @@ loop-mirror-preserved c t k e lt = elim (cases_lt k c.loop-mirror.mirror) [
 
 pub returns : goal.returns
 returns c t e =
-    sym (behind_none (flagged c.args.failing.now) t c.copies_of-mirror-end.result (c.copies_of-mirror-end.ensures.copies t e)
+    sym (behind_none (flagged c.args.failing.now) t c.args.block.now.copies (c.requires.copies t e)
     (λ k lt. c.loop-mirror.invariant t k e (omega (arith, lt, c.loop-mirror-test.false))))

@@ -1,42 +1,28 @@
-use Rattle.std.proofs.Common.{ℕ, IsSome, sym, ap, ◌∙◌}
-use Rattle.std.proofs.lemmas.Option.{same_Some}
-use Rattle.btr_chunk.specs.declared.place.Part.TheVariants.{Mirror}
-use Rattle.btr_read.specs.Candidates.{element, range_of}
-use Rattle.btr_read.specs.Fate.{sought}
-use Rattle.btr_read.specs.Layout.{Layout}
-use Rattle.btr_read.specs.Mirror.{HasMirror}
-use Rattle.btr_read.proofs.Lent.{stays_same}
 use Rattle.btr_scrub_copies.specs.declared.finding.Bad.{Bad}
-use Rattle.btr_scrub_copies.proofs.Copied.{copy_stands, same_loans_then}
+use Rattle.btr_scrub_copies.proofs.Copied.{copies_stand, same_loans_then}
 use Rattle.btr_scrub_copies.proofs.Firsts.{counts_are, writes_are}
-use Rattle.btr_scrub_copies.proofs.Outcomes.{has_bytes, repairs_behind, repairs_failed, same_block}
+use Rattle.btr_scrub_copies.proofs.Outcomes.{repairs_failed, repairs_flagged}
+use Rattle.std.proofs.Common.{sym, ◌∙◌}
+use Rattle.btr_scrub_copies.proofs.Common.{stays_same}
 use Rattle.btr_scrub_copies.proofs.mending.mend_others.Goals as goal
 
 pub returns-in_err-bad-clause-mends : goal.returns-in_err-bad-clause-mends
 returns-in_err-bad-clause-mends g c t e =
-    repairs_failed Bad c.in_err-bad.field-0.0 c.from_residual.ensures.1 c.in_err-bad.ensures.reads (c.in_err-bad.ensures.account t e)
+    repairs_failed c.in_err-bad.ensures.reads Bad c.in_err-bad.field-0.0 c.from_residual.ensures.1 (c.in_err-bad.ensures.account t e)
 
 pub mend_bad-requires-clause-live : goal.mend_bad-requires-clause-live
-mend_bad-requires-clause-live g c =
-    stays_same c.args.store.now c.bad_copies.new.store c.args.first.now.loan c.in_ok-bad.ensures.same c.requires.live
+mend_bad-requires-clause-live g c = stays_same _ _ _ c.in_ok-bad.ensures.same c.requires.live
 
 pub returns-clause-loans : goal.returns-clause-loans
-returns-clause-loans g c =
-    same_loans_then c.args.store.now c.bad_copies.new.store c.mend_bad.new.store c.in_ok-bad.ensures.same c.mend_bad.ensures.loans
+returns-clause-loans g c = same_loans_then _ _ _ c.in_ok-bad.ensures.same c.mend_bad.ensures.loans
 
 pub returns-clause-mends : goal.returns-clause-mends
-returns-clause-mends g c t e =
-    let old = c.args.store.now in
-    let loan = c.args.first.now.loan in
-    let same = c.in_ok-bad.ensures.same in
-    let n = c.copies_of-copies.result in
-    let has = c.copies_of-copies.ensures.copies t e in
-    let stand : (k : ℕ) → HasMirror k t → IsSome (range_of t (Mirror k)) = λ k has. copy_stands old.layout c.args.want.now t k c.requires.copied e has in
-    let own = has_bytes old loan c.requires.live in
-    repairs_behind c.in_ok-bad.ensures.reads (c.in_ok-bad.ensures.account t e)
-    (c.mend_bad.ensures.mends t own.0 (ap (λ (l : Layout). sought l c.args.want.now) same.layout ∙ e)
-    (same_block old c.bad_copies.new.store loan same.loans ∙ own.1))
-    (λ images told. let first = c.requires.first t images e told in
-    writes_are images t n has stand first.0 (c.in_ok-bad.ensures.bad t images e told) own.0
-    (same_Some own.0 (element images t (Mirror c.args.first.now.mirror)) (sym own.1 ∙ first.1)))
-    (λ images told. counts_are images t n has stand (c.requires.first t images e told).0 (c.in_ok-bad.ensures.bad t images e told) c.args.write)
+returns-clause-mends g c t e = repairs_flagged (record { block = c.args.block.now; bad = c.in_ok-bad.bad }) c.in_ok-bad.ensures.reads
+    (c.in_ok-bad.ensures.account t e) c.in_ok-bad.ensures.same c.requires.live e c.mend_bad.ensures.mends (λ bytes images block told.
+    let first = c.requires.first t images e told in
+    let n = c.args.block.now.copies in
+    let has = c.requires.copies t e in
+    let stand = copies_stand c.args.store.now.layout c.args.block.now.want.now t n c.requires.copied e has in
+    let accepts = first.0.accepts ∙ sym first.1 ∙ block in
+    let bad = c.in_ok-bad.ensures.bad t images e told in
+    (writes_are images t n has stand bytes accepts bad, counts_are images t n has stand bytes accepts bad c.args.write))

@@ -1,12 +1,10 @@
 use Rattle.std.proofs.Common.{◌≡◌, ◌+◌, ◌<◌, ◌≤◌, IsSome, IsSomeAnd, is_some, sym, ap, ◌∙◌, subst, inl, inr, arith}
-use Rattle.std.proofs.lemmas.Bool.{cases_lt}
+use Rattle.btr_scrub_copies.proofs.Common.{Mirror, cases_lt, device_in, range_of}
 use Rattle.btr_chunk.specs.Table.{chunk_at}
 use Rattle.btr_chunk.specs.Mapping.{elements_of}
-use Rattle.btr_chunk.specs.declared.place.Part.TheVariants.{Mirror}
 use Rattle.btr_chunk.specs.declared.place.StripePlace.{StripePlace}
-use Rattle.btr_read.specs.Candidates.{range_of, range_on, size_of}
+use Rattle.btr_read.specs.Candidates.{range_on, size_of}
 use Rattle.btr_read.specs.Fate.{sought_at, sought_in, target}
-use Rattle.btr_read.specs.Layout.{device_in}
 use Rattle.btr_read.specs.Want.{addr_of}
 use Rattle.btr_scrub_copies.proofs.Standing.{stands_on}
 use Rattle.btr_scrub_copies.proofs.tests.has_copies.Goals as goal

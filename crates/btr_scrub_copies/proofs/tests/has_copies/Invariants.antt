@@ -1,6 +1,5 @@
 use Rattle.std.proofs.Common.{ℕ, ◌<◌, IsSome}
-use Rattle.btr_chunk.specs.declared.place.Part.TheVariants.{Mirror}
-use Rattle.btr_read.specs.Candidates.{range_of}
+use Rattle.btr_scrub_copies.proofs.Common.{Mirror, range_of}
 use Rattle.btr_read.specs.Fate.{target}
 use Rattle.btr_scrub_copies.proofs.tests.has_copies.Given as goal
 
