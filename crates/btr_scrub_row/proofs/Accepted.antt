@@ -1,23 +1,19 @@
 -- The candidates of a block of a row, tried in their order.
 use Rattle.std.proofs.Common.{◌≡◌, ◌≢◌, ◌⊎◌, ℕ, ◌+◌, ◌-◌, ◌<◌, ◌≤◌, ◌&&◌, ◌||◌, eqb, Bool, true, false, [], length, map, take, get_or, slice_get, Some, None}
 use Rattle.std.proofs.Common.{Result, Ok, Err, IsOkAnd, IsSome, IsNone, is_some, refl, sym, ap, ◌∙◌, subst, inl, inr, arith}
+use Rattle.btr_scrub_row.proofs.Common.{Candidate, HasPart, Images, IsSited, P, Part, Profile, Q, Raid6, Slice, SlicePiece, Target, candidates, data_count}
+use Rattle.btr_scrub_row.proofs.Common.{filter, mirrors, range_of, range_with_len, reads_slice, same_Some, slice_get_within, value_of, ways, without_copies}
 use Rattle.std.proofs.lemmas.Bool.{eqb-true}
-use Rattle.std.proofs.lemmas.Option.{same_Some, slice_get-get_or, slice_get_within}
-use Rattle.std.specs.List.{filter, list_all, range_with_len}
-use Rattle.btr_chunk.specs.Chunk.{data_count, mirrors}
-use Rattle.btr_chunk.specs.Mapping.{HasPart, IsPosition}
-use Rattle.btr_chunk.specs.declared.place.Part.{Part}
-use Rattle.btr_chunk.specs.declared.place.Part.TheVariants.{Slice, P, Q}
-use Rattle.btr_chunk.specs.declared.profile.Profile.{Profile}
+use Rattle.std.proofs.lemmas.Option.{slice_get-get_or}
+use Rattle.std.specs.List.{list_all}
+use Rattle.btr_chunk.specs.Mapping.{IsPosition}
 use Rattle.btr_chunk.specs.declared.profile.Profile.TheVariants as profile
-use Rattle.btr_chunk.specs.declared.profile.Profile.TheVariants.{Raid5, Raid6}
-use Rattle.btr_chunk.proofs.Rows.{without_copies}
-use Rattle.btr_read.specs.Candidates.{Target, candidates, element, range_of, reads_slice, slice_count, stands, value_of, ways}
+use Rattle.btr_chunk.specs.declared.profile.Profile.TheVariants.{Raid5}
+use Rattle.btr_read.specs.Candidates.{element, slice_count, stands}
 use Rattle.btr_read.specs.Fate.{Fault}
 use Rattle.btr_read.specs.Order.{IsWayAt}
 use Rattle.btr_read.specs.Sought.{IsTwoParities}
 use Rattle.btr_read.specs.Want.{passes}
-use Rattle.btr_read.specs.declared.candidate.Candidate.{Candidate}
 use Rattle.btr_read.specs.declared.candidate.Candidate.TheVariants.{Read, ByP, ByQ, ByBoth}
 use Rattle.btr_read.proofs.InOrder.{length-with_p_and_q, with_p, with_p_and_q}
 use Rattle.btr_read.proofs.Standing.{all_read, both}
@@ -26,9 +22,7 @@ use Rattle.btr_read.proofs.Ones.{In}
 use Rattle.btr_read.proofs.Order.{in_candidates, length-candidates}
 use Rattle.btr_read.proofs.Trials.{fails_where_none, first_then, none_of_all, none_then}
 use Rattle.btr_scrub_copies.specs.Blocks.{accepted}
-use Rattle.btr_scrub_copies.specs.Writes.{Images}
-use Rattle.btr_scrub_row.specs.Memory.{IsGone, IsSited, IsWayCount, IsWayOf, ReadsQ}
-use Rattle.btr_scrub_row.specs.declared.slice_piece.SlicePiece.{SlicePiece}
+use Rattle.btr_scrub_row.specs.Memory.{IsGone, IsWayCount, IsWayOf, ReadsQ}
 
 -- a profile has Q or not
 pub has_q : (p : Profile) → (p ≡ Raid6) ⊎ (p ≢ Raid6)
@@ -54,10 +48,6 @@ in_count {piece = piece} k is some lt = elim (has_q piece.shape.profile) [
 pub the_target : (r : Result Target Fault) (Fact : Target → Type 0) → IsOkAnd r Fact → (t : Target) × (r ≡ Ok t) × Fact t
 the_target (Err fault) Fact h = absurd h
 the_target (Ok t) Fact h = (t, refl, h)
-
--- the position that is sought has the piece
-pub sited_at : (r : Result Target Fault) (piece : SlicePiece) (t : Target) → r ≡ Ok t → IsOkAnd r (IsSited piece) → IsSited piece t
-sited_at r piece t e h = subst (λ r. IsOkAnd r (IsSited piece)) e h
 
 -- the block's own place passes too
 pub own_good : (good own : Bool) (way : ℕ) → own ≡ good → (way ≡ 0 → good ≡ true) → good ≡ ((eqb way 0) || own)

@@ -1,29 +1,18 @@
 -- All writes of a row, put together.
 use Rattle.std.proofs.Common.{◌≡◌, ◌≢◌, ◌⊎◌, ℕ, ◌+◌, ◌≤◌, List, [], ◌∷◌, ◌++◌, length, Option, Some, None, IfSome, refl, sym, ap, ◌∙◌, subst, inl, inr, arith}
-use Rattle.std.specs.List.{flat_map, sum_by}
+use Rattle.btr_scrub_row.proofs.Common.{FullStripe, HasParity, HoldsRow, Images, IsPrepared, IsStripeOf, Judged, Layout, P, Parity, Part, Q, Raid6, Row, Write}
+use Rattle.btr_scrub_row.proofs.Common.{flat_map, mending_writes, mirrors, parities, parity_count, parity_writes, told_writes, without_copies}
+use Rattle.std.specs.List.{sum_by}
 use Rattle.std.proofs.lemmas.List.{nil_from_length}
 use Rattle.std.proofs.lemmas.List.Concat.{flat_map-cons, length-flat_map}
 use Rattle.std.proofs.lemmas.List.Sums.{sum_by-cons}
-use Rattle.btr_chunk.specs.Chunk.{mirrors}
-use Rattle.btr_chunk.specs.declared.place.Part.{Part}
-use Rattle.btr_chunk.specs.declared.place.Part.TheVariants.{P, Q}
-use Rattle.btr_chunk.specs.declared.profile.Profile.TheVariants.{Raid6}
-use Rattle.btr_chunk.proofs.Rows.{without_copies}
-use Rattle.btr_read.specs.Layout.{Layout}
 use Rattle.btr_read.proofs.Trials.{told}
-use Rattle.btr_scrub_row.specs.Wanted.{mending_writes}
-use Rattle.btr_scrub_copies.specs.Writes.{Images, Write}
-use Rattle.btr_scrub_row.specs.Mending.{parity_count}
-use Rattle.btr_scrub_row.specs.Rows.{Row, parities, parities_writes, parity_writes, rebuilt_writes}
-use Rattle.btr_scrub_row.specs.Preparing.{HasOneTurn, IsPrepared, IsAllPrepared, TellsRow, sums_of}
-use Rattle.btr_scrub_row.specs.Memory.{HasParity, HoldsRow, IsStripeOf}
-use Rattle.btr_scrub_row.specs.Writing.{AreTold, KnowsParity, TellsHeldRow, told_writes}
+use Rattle.btr_scrub_row.specs.Rows.{parities_writes, rebuilt_writes}
+use Rattle.btr_scrub_row.specs.Preparing.{HasOneTurn, IsAllPrepared, TellsRow, sums_of}
+use Rattle.btr_scrub_row.specs.Writing.{AreTold, KnowsParity, TellsHeldRow}
 use Rattle.btr_scrub_row.specs.declared.buffer.RowBuffer.{RowBuffer}
-use Rattle.btr_scrub_row.specs.declared.judged.Judged.{Judged}
-use Rattle.btr_read.specs.declared.parity.Parity.{Parity}
 use Rattle.btr_read.specs.declared.parity.Parity.TheVariants as parity
 use Rattle.btr_scrub_row.specs.declared.prepared_row.PreparedRow.{PreparedRow}
-use Rattle.btr_scrub_row.specs.declared.stripe.FullStripe.{FullStripe}
 
 -- what follows from what is known is told too
 pub tells_more : {A B : Images → Type 0} {told held : Option Images} → ((images : Images) → A images → B images) → AreTold A told held → AreTold B told held
@@ -39,10 +28,6 @@ only_p row none not_six = elim (without_copies row.chunk.profile (length row.chu
   | inl five ↦ ap parities five
   | inr six ↦ absurd (not_six six)
 ]
-
--- in RAID6 they are P and Q
-pub p_and_q : (row : Row) → row.chunk.profile ≡ Raid6 → parities row.chunk.profile ≡ P ∷ Q ∷ []
-p_and_q row six = ap parities six
 
 -- P is the first one in any case
 pub p_first : (row : Row) → mirrors row.chunk ≡ None → (rest : List Part) × (parities row.chunk.profile ≡ P ∷ rest)

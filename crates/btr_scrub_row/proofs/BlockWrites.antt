@@ -1,22 +1,10 @@
 -- The write that mends a block, as it is made from the bytes in memory.
 use Rattle.std.proofs.Common.{◌≡◌, ℕ, ◌+◌, ◌≤◌, ◌||◌, Bool, false, not, List, [], ◌∷◌, length, take, Some, IsNone, refl, sym, ap, ◌∙◌, subst, arith}
 use Rattle.std.proofs.Common.{length-take}
-use Rattle.btr_chunk.specs.Chunk.{mirrors}
-use Rattle.btr_chunk.specs.Mapping.{HasPart}
-use Rattle.btr_chunk.specs.declared.place.Part.TheVariants.{Slice}
-use Rattle.btr_rack.specs.Rack.{Seen, range_in}
-use Rattle.btr_rack.specs.declared.place.Place.{Place as Range}
-use Rattle.btr_read.specs.Candidates.{Target, range_of, size_of}
-use Rattle.btr_read.specs.Layout.{Layout}
-use Rattle.btr_read.specs.declared.want.Want.{Want}
-use Rattle.btr_scrub_row.specs.Wanted.{mending_writes}
-use Rattle.btr_scrub_copies.specs.Writes.{Images}
-use Rattle.btr_scrub_row.specs.Rows.{Row, range_in_element}
-use Rattle.btr_scrub_row.specs.Mending.{IsOfRow}
+use Rattle.btr_scrub_row.proofs.Common.{CanWrite, CanWriteIn, FullStripe, HasPart, Images, IsOfRow, Layout, Range, Row, Seen, Slice, SlicePiece, Target, Want}
+use Rattle.btr_scrub_row.proofs.Common.{mending_writes, mirrors, range_in, range_in_element, range_of, size_of}
 use Rattle.btr_scrub_row.specs.Memory.{IsSettled}
-use Rattle.btr_scrub_row.specs.Writing.{CanWrite, CanWriteIn, write_at}
-use Rattle.btr_scrub_row.specs.declared.slice_piece.SlicePiece.{SlicePiece}
-use Rattle.btr_scrub_row.specs.declared.stripe.FullStripe.{FullStripe}
+use Rattle.btr_scrub_row.specs.Writing.{write_at}
 use Rattle.btr_scrub_row.proofs.Elements.{IsElement, Lies, block_lies, can_write_in, is_at, its_element, lies, lies_in_row}
 use Rattle.btr_scrub_row.proofs.Held.{IsBlock, lies_at}
 use Rattle.btr_scrub_row.specs.declared.settling.Settled.{Settled}

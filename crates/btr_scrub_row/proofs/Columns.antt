@@ -1,32 +1,21 @@
 -- The sectors of a parity, column by column.
-use Rattle.std.proofs.Common.{◌≡◌, ℕ, suc, ◌+◌, ◌*◌, ◌<◌, ◌≤◌, ◌&&◌, ◌||◌, Bool, true, false, not, cond, List, [], ◌∷◌, ◌++◌, length, take, get_or}
-use Rattle.std.proofs.Common.{slice_range, Option, Some, None, IsSome, count_by, refl, sym, ap, ◌∙◌, subst, arith}
-use Rattle.std.proofs.lemmas.Bool.{false≢true}
-use Rattle.std.specs.List.{cons_option, filter, filter_map, flat_map, list_all, list_any, range_with_len}
-use Rattle.std.proofs.lemmas.List.Sums.{sum_by-cons}
+use Rattle.std.proofs.Common.{◌≡◌, ℕ, ◌+◌, ◌*◌, ◌<◌, ◌≤◌, ◌&&◌, ◌||◌, Bool, true, false, not, cond, List, [], ◌∷◌, length, take, get_or, slice_range, Option}
+use Rattle.std.proofs.Common.{Some, None, IsSome, count_by, refl, sym, ap, ◌∙◌, subst, arith}
+use Rattle.btr_scrub_row.proofs.Common.{CanWrite, CanWriteIn, FullStripe, HasPart, Images, IsOfRow, IsStripeOf, Layout, Part, Range, Row, Seen, Target, Write}
+use Rattle.btr_scrub_row.proofs.Common.{bytes_eq, column_writes, common_steps, differs, element, element_in, filter, flat_map, is_decided, is_sure, list_any}
+use Rattle.btr_scrub_row.proofs.Common.{new_bytes, parity_writes, range-range, range_in, range_in_element, range_with_len, told_writes}
+use Rattle.std.specs.List.{cons_option, filter_map, list_all}
+use Rattle.std.proofs.lemmas.List.Sums.{length-filter}
 use Rattle.std.specs.Option.{option_map}
-use Rattle.std.proofs.lemmas.List.FromFn.{get_or-range_with_len, length-range_with_len}
-use Rattle.std.specs.Str.{bytes_eq}
-use Rattle.btr_chunk.specs.Mapping.{HasPart}
-use Rattle.btr_chunk.specs.declared.place.Part.{Part}
-use Rattle.btr_rack.specs.Rack.{Seen, range_in}
-use Rattle.btr_rack.specs.declared.place.Place.{Place as Range}
-use Rattle.btr_read.specs.Candidates.{Target}
-use Rattle.btr_read.specs.Layout.{Layout}
-use Rattle.btr_scrub_row.specs.Wanted.{new_bytes}
-use Rattle.btr_scrub_copies.specs.Writes.{Images, Write}
-use Rattle.btr_scrub_row.specs.Rows.{Row, column_of, differs, element, element_with, is_decided, is_sure, meets, parity_writes, range_in_element, sector_write}
-use Rattle.btr_scrub_row.specs.Mending.{IsOfRow}
-use Rattle.btr_scrub_row.specs.Memory.{IsStripeOf, element_in}
-use Rattle.btr_scrub_row.specs.Writing.{CanWrite, CanWriteIn, column_writes, told_writes, write_at}
-use Rattle.btr_scrub_row.specs.declared.stripe.FullStripe.{FullStripe}
-use Rattle.btr_read.proofs.Pieces.{range-range}
+use Rattle.std.proofs.lemmas.List.FromFn.{get_or-range_with_len}
+use Rattle.btr_scrub_row.specs.Rows.{column_of, element_with, meets, sector_write}
+use Rattle.btr_scrub_row.specs.Writing.{write_at, is_wrong}
 use Rattle.btr_scrub_row.proofs.Elements.{IsElement, Lies, can_write_in, is_at, its_element, lies, lies_at, lies_in_row}
 use Rattle.btr_scrub_row.proofs.Pasted.{front_range, length-range}
-
--- a write at a range
-abbrev made : Range → List ℕ → Write
-made range bytes = record { range = range; bytes = bytes }
+use Rattle.btr_read.proofs.Ones.{in_below}
+use Rattle.btr_read.proofs.Order.{of_filter}
+use Rattle.btr_scrub_copies.proofs.Lists.{length-filter_map}
+use Rattle.btr_scrub_row.proofs.Settled.{written_at}
 
 -- ---- decided columns
 
@@ -34,14 +23,7 @@ made range bytes = record { range = range; bytes = bytes }
 none_else : (column : ℕ) (sure : Target → Bool) (ts : List Target) → not (list_any (λ t. not (sure t) && meets column t) ts)
     ≡ list_all (λ t. not (meets column t) || sure t) ts
 none_else column sure [] = refl
-none_else column sure (t ∷ ts) = by (sure t) (meets column t) (list_any (λ t. not (sure t) && meets column t) ts)
-    (list_all (λ t. not (meets column t) || sure t) ts) (none_else column sure ts)
-  where
-    by : (s m rest all : Bool) → not rest ≡ all → not ((not s && m) || rest) ≡ ((not m || s) && all)
-    by false true rest all e = refl
-    by false false rest all e = e
-    by true true rest all e = e
-    by true false rest all e = e
+none_else column sure (t ∷ ts) = grind (arith, common_steps, none_else column sure ts)
 
 -- a column is decided where it meets a block, and none that isn't sure
 pub decided_is : (images : Images) (layout : Layout) (row : Row) (column : ℕ) (met broken : Bool) → met ≡ list_any (meets column) row.blocks → broken
@@ -66,46 +48,17 @@ differs_is images layout row part column e start old sums lt at is new =
 
 -- ---- the writes of a parity, column by column
 
-cons_first : (o : Option Write) (rest : List Write) → cons_option o [] ++ rest ≡ cons_option o rest
-cons_first None rest = refl
-cons_first (Some w) rest = refl
-
 -- the writes that may be there, for each that passes, one after another
 flat_filter : (f : ℕ → Option Write) (p : ℕ → Bool) (xs : List ℕ) → flat_map (λ x. cond (p x) (cons_option (f x) []) []) xs ≡ filter_map f (filter p xs)
 flat_filter f p [] = refl
-flat_filter f p (x ∷ xs) = by (p x) (flat_map (λ x. cond (p x) (cons_option (f x) []) []) xs) (filter p xs) (flat_filter f p xs)
-  where
-    by : (b : Bool) (rest : List Write) (ys : List ℕ) → rest ≡ filter_map f ys → cond b (cons_option (f x) []) [] ++ rest ≡ filter_map f (cond b (x ∷ ys) ys)
-    by true rest ys e = cons_first (f x) rest ∙ ap (cons_option (f x)) e
-    by false rest ys e = e
+flat_filter f p (x ∷ xs) = grind (arith, common_steps, flat_filter f p xs)
 
--- where each write is there, there are as many as pass
-count_filter : (f : ℕ → Option Write) (p : ℕ → Bool) (xs : List ℕ) → ((i d : ℕ) → i < length xs → IsSome (f (get_or xs i d)))
-    → length (filter_map f (filter p xs)) ≡ count_by p xs
-count_filter f p [] h = refl
-count_filter f p (x ∷ xs) h = by (p x) (filter p xs) (count_by p xs) (count_filter f p xs (λ i d lt. h (suc i) d (omega (arith, lt))))
-    ∙ sym (sum_by-cons (λ x. cond (p x) 1 0) x xs)
-  where
-    one : (o : Option Write) (rest : List Write) → IsSome o → length (cons_option o rest) ≡ 1 + length rest
-    one None rest s = absurd (false≢true s)
-    one (Some w) rest s = omega arith
-
-    by : (b : Bool) (ys : List ℕ) (n : ℕ) → length (filter_map f ys) ≡ n → length (filter_map f (cond b (x ∷ ys) ys)) ≡ cond b 1 0 + n
-    by true ys n e = one (f x) (filter_map f ys) (h 0 x (omega arith)) ∙ ap (λ m. 1 + m) e
-    by false ys n e = e ∙ omega arith
-
--- the writes of the columns are all that mend the parity
-columns_are : (images : Images) (layout : Layout) (row : Row) (part : Part)
-    → flat_map (column_writes layout row part images) (range_with_len 0 16) ≡ parity_writes images layout row part
-columns_are images layout row part = flat_filter (sector_write images layout row part)
-    (λ column. is_decided images layout row column && differs images layout row part column) (range_with_len 0 16)
-
--- the same where the images are told
+-- the writes of the columns that are told are all that mend the parity
 pub columns_told : (layout : Layout) (row : Row) (part : Part) (told : Option Images)
     → told_writes (λ images. flat_map (column_writes layout row part images) (range_with_len 0 16)) told
     ≡ told_writes (λ images. parity_writes images layout row part) told
 columns_told layout row part None = refl
-columns_told layout row part (Some images) = columns_are images layout row part
+columns_told layout row part (Some images) = flat_filter (sector_write images layout row part) (is_wrong images layout row part) (range_with_len 0 16)
 
 -- the number of the i-th
 pub column_at : (i d : ℕ) → i < 16 → get_or (range_with_len 0 16) i d ≡ i
@@ -121,18 +74,19 @@ module _ (layout : Layout) (stripe : FullStripe) (row : Row) (of : IsStripeOf la
 
   -- the sector of a column lies in the element, and gets that of the new data
   sector_at : (images : Images) (column : ℕ) → column < 16 → sector_write images layout row part column
-      ≡ Some (made (range_in l.slot (l.off + column * 4096) 4096) (column_of column (element_with images layout (new_bytes images row.failing) row part)))
-  sector_at images column lt = ap (option_map (λ (range : Range). made range
+      ≡ Some (written_at (range_in l.slot (l.off + column * 4096) 4096) (column_of column (element_with images layout (new_bytes images row.failing) row part)))
+  sector_at images column lt = ap (option_map (λ (range : Range). written_at range
       (column_of column (element_with images layout (new_bytes images row.failing) row part))))
       (lies_at el l (column * 4096) 4096 (omega (arith, lt)) (omega (arith, lt)))
 
   -- as many columns are wrong as sectors of the parity are written
-  pub counted_all : (images : Images) → count_by (λ column. is_decided images layout row column && differs images layout row part column)
-      (range_with_len 0 16) ≡ length (parity_writes images layout row part)
-  counted_all images = sym (count_filter (sector_write images layout row part)
-      (λ column. is_decided images layout row column && differs images layout row part column) (range_with_len 0 16)
-      (λ i d lt. let below : i < 16 = omega (arith, lt, length-range_with_len 0 16) in
-      subst IsSome (sym (ap (sector_write images layout row part) (column_at i d below) ∙ sector_at images i below)) refl))
+  pub counted_all : (images : Images) → count_by (is_wrong images layout row part) (range_with_len 0 16) ≡ length (parity_writes images layout row part)
+  counted_all images =
+      let wrong = is_wrong images layout row part in
+      let columns = range_with_len 0 16 in
+      sym (length-filter_map (sector_write images layout row part) (filter wrong columns) (λ column i.
+      let lt = in_below 16 column (of_filter wrong column columns i) in
+      subst IsSome (sym (sector_at images column lt)) refl) ∙ length-filter wrong columns)
 
   module _ (element : Range) (is : range_in_element layout row part 0 65536 ≡ Some element) (column : ℕ) (lt : column < 16) where
     -- the sector can be written there
@@ -146,7 +100,7 @@ module _ (layout : Layout) (stripe : FullStripe) (row : Row) (of : IsStripeOf la
     -- one write, where the parity is wrong
     pub writes_sector : (images : Images) (sums : List ℕ) → 65536 ≤ length sums → take 65536 sums
         ≡ element_with images layout (new_bytes images row.failing) row part
-        → (is_decided images layout row column && differs images layout row part column) ≡ true
+        → is_wrong images layout row part column ≡ true
         → write_at element.slot (element.off + column * 4096) (slice_range sums (column * 4096) (column * 4096 + 4096)) ∷ []
         ≡ column_writes layout row part images column
     writes_sector images sums room new wrong =
@@ -157,12 +111,12 @@ module _ (layout : Layout) (stripe : FullStripe) (row : Row) (of : IsStripeOf la
         sym (front_range sums 65536 (column * 4096) (column * 4096 + 4096) (omega arith) (omega (arith, lt))) ∙ ap (column_of column) new in
         ap (λ s. write_at s (element.off + column * 4096) bytes ∷ []) a.slot
         ∙ ap (λ o. write_at l.slot (o + column * 4096) bytes ∷ []) a.off
-        ∙ ap (λ n. made (range_in l.slot (l.off + column * 4096) n) bytes ∷ []) long
-        ∙ ap (λ bs. made (range_in l.slot (l.off + column * 4096) 4096) bs ∷ []) same
+        ∙ ap (λ n. written_at (range_in l.slot (l.off + column * 4096) n) bytes ∷ []) long
+        ∙ ap (λ bs. written_at (range_in l.slot (l.off + column * 4096) 4096) bs ∷ []) same
         ∙ sym (ap (λ b. cond b (cons_option (sector_write images layout row part column) []) []) wrong
         ∙ ap (λ o. cons_option o []) (sector_at images column lt))
 
 -- and none where it isn't
 pub writes_none : (images : Images) (layout : Layout) (row : Row) (part : Part) (column : ℕ)
-    → (is_decided images layout row column && differs images layout row part column) ≡ false → [] ≡ column_writes layout row part images column
+    → is_wrong images layout row part column ≡ false → [] ≡ column_writes layout row part images column
 writes_none images layout row part column right = sym (ap (λ b. cond b (cons_option (sector_write images layout row part column) []) []) right)

@@ -1,46 +1,29 @@
 -- The images of a row that are in doubt, as its candidates read them.
-use Rattle.std.proofs.Common.{◌≡◌, ℕ, zero, suc, ◌+◌, ◌<◌, ◌≤◌, ◌&&◌, ◌||◌, Bool, true, false, not, cond, List, [], ◌∷◌, ◌++◌, length, map, take, get_or, set}
-use Rattle.std.proofs.Common.{Option, Some, None, slice_get, refl, sym, ap, ◌∙◌, subst, inl, inr, arith}
-use Rattle.std.specs.List.{filter, list_any, range_with_len}
-use Rattle.std.specs.Option.{option_map_or}
+use Rattle.std.proofs.Common.{◌≡◌, ℕ, ◌+◌, ◌<◌, ◌&&◌, ◌||◌, Bool, true, false, not, cond, List, [], ◌∷◌, ◌++◌, length, map, take, get_or, Option, Some, None}
+use Rattle.std.proofs.Common.{slice_get, refl, sym, ap, ◌∙◌, subst, inl, inr, arith}
+use Rattle.btr_scrub_row.proofs.Common.{Candidate, Doubts, HasParity, IsChunk, KnowsDoubts, Layout, LiesAt, P, Parity, Part, Q, Raid6, Row, Slice, SlicePiece}
+use Rattle.btr_scrub_row.proofs.Common.{Stripe, Target, common_steps, data_count, devid_at, element_count, element_of, filter, flag_of, is_behind}
+use Rattle.btr_scrub_row.proofs.Common.{is_doubtful, is_on_behind, is_trusted, list_any, mirrors, option_map_or, part_at, part_of, range_with_len, reads_slice}
+use Rattle.btr_scrub_row.proofs.Common.{same_Some, slice_count, slice_get_within, take_more, ways}
 use Rattle.std.proofs.Math.Bool.{or-false}
-use Rattle.std.proofs.lemmas.Bool.{cases_lt}
-use Rattle.std.proofs.lemmas.List.{get_or-set_other, get_or-set_same, take_more}
 use Rattle.std.proofs.lemmas.List.Elements.{filter-append}
-use Rattle.std.proofs.lemmas.Option.{same_Some, slice_get-get_or, slice_get_within}
-use Rattle.btr_chunk.specs.Chunk.{IsChunk, data_count, mirrors}
+use Rattle.std.proofs.lemmas.Option.{slice_get-get_or}
 use Rattle.btr_chunk.specs.Mapping.{place_at, place_on, stripe_of}
 use Rattle.btr_chunk.specs.declared.chunk.Chunk.{Chunk}
-use Rattle.btr_chunk.specs.declared.place.Part.{Part}
-use Rattle.btr_chunk.specs.declared.place.Part.TheVariants.{Slice, P, Q}
 use Rattle.btr_chunk.specs.declared.position.Elements.{Elements}
-use Rattle.btr_chunk.specs.declared.profile.Profile.TheVariants.{Raid6}
-use Rattle.btr_chunk.specs.declared.stripe.Stripe.{Stripe}
-use Rattle.btr_read.specs.Candidates.{Target, candidates, reads_slice, stands, ways}
+use Rattle.btr_read.specs.Candidates.{stands}
 use Rattle.btr_read.specs.Candidates as candidates
-use Rattle.btr_read.specs.Layout.{Layout}
-use Rattle.btr_read.proofs.Order.{filter_at}
 use Rattle.btr_read.specs.Sought.{IsTwoParities}
-use Rattle.btr_read.specs.declared.candidate.Candidate.{Candidate}
 use Rattle.btr_read.specs.declared.candidate.Candidate.TheVariants.{Read, ByP, ByQ, ByBoth}
-use Rattle.btr_scrub_copies.specs.Fresh.{first_trusted, is_behind, is_doubtful, is_on_behind, is_on_doubtful, is_trusted, reads_doubtful}
+use Rattle.btr_scrub_copies.specs.Fresh.{first_trusted, is_on_doubtful, reads_doubtful}
 use Rattle.btr_scrub_copies.proofs.Freshness.{trusted_ways}
-use Rattle.btr_scrub_row.specs.Rows.{Row, parities, slice_count}
-use Rattle.btr_scrub_row.specs.Memory.{KnowsDoubts, LiesAt, ReadsQ, devid_at, element_count, flag_of, part_at, reads_flagged, reads_flagged_slice}
-use Rattle.btr_scrub_row.specs.declared.doubts.Doubts.{Doubts}
-use Rattle.btr_scrub_row.specs.declared.slice_piece.SlicePiece.{SlicePiece}
+use Rattle.btr_scrub_row.specs.Memory.{ReadsQ, reads_flagged, reads_flagged_slice}
 use Rattle.btr_scrub_row.proofs.Elements.{stripe-row}
-use Rattle.btr_scrub_row.proofs.Shapes.{Counted, part_p, part_q, part_slice, row_counted}
-
--- one more flag
-pub flag_more : (flags : List Bool) (n k : ℕ) (b : Bool) (f : ℕ → Bool) → n < length flags → ((k : ℕ) → k < n → get_or flags k false ≡ f k)
-    → b ≡ f n → k < n + 1 → get_or (set flags n b) k false ≡ f k
-flag_more flags n k b f within before here lt = elim (cases_lt k n) [
-  | inl below ↦ get_or-set_other flags n k b false (λ e. absurd (omega (arith, e, below))) ∙ before k below
-  | inr there ↦
-      let same : n ≡ k = omega (arith, there, lt) in
-      ap (λ j. get_or (set flags n b) j false) (sym same) ∙ get_or-set_same flags n b false within ∙ here ∙ ap f same
-]
+use Rattle.btr_scrub_row.proofs.Shapes.{part_slice, parity_at}
+use Rattle.btr_scrub_copies.proofs.Lists.{first_kept}
+use Rattle.btr_scrub_copies.specs.Writes.{In}
+use Rattle.btr_read.proofs.Ones.{in_below}
+use Rattle.btr_read.specs.declared.parity.Parity.TheVariants as parity
 
 -- ---- the first that is so
 
@@ -52,11 +35,6 @@ none_more p xs k x e none fails =
     let is : get_or xs k x ≡ x = same_Some (get_or xs k x) x (sym (slice_get-get_or xs k x lt) ∙ e) in
     ap (filter p) (take_more xs k x lt ∙ ap (λ y. take k xs ++ y ∷ []) is) ∙ filter-append p (take k xs) (x ∷ [])
     ∙ ap (λ ys. ys ++ filter p (x ∷ [])) none ∙ ap (λ b. cond b (x ∷ []) []) fails
-
--- it is the first that is so
-first_so : {X : Type 0} (p : X → Bool) (xs : List X) (k : ℕ) (x : X) → slice_get xs k ≡ Some x → filter p (take k xs) ≡ [] → p x ≡ true
-    → slice_get (filter p xs) 0 ≡ Some x
-first_so p xs k x e none is = subst (λ ys. slice_get (filter p xs) (length ys) ≡ Some x) none (filter_at p xs k x e is)
 
 -- ---- devices
 
@@ -80,9 +58,6 @@ module _ {layout : Layout} {row : Row} {t : Target} {piece : SlicePiece} {doubts
     (knows : KnowsDoubts layout row doubts) where
   none : mirrors row.chunk ≡ None
   none = sym (ap mirrors at.on.chunk) ∙ at.sited.parity
-
-  count : Counted row.chunk.profile (length row.chunk.stripes)
-  count = row_counted row none (subst IsChunk at.on.chunk at.sited.keeps_rule)
 
   slices_are : candidates.slice_count t ≡ slice_count row
   slices_are = ap (λ c. data_count c.profile (length c.stripes)) at.on.chunk
@@ -122,57 +97,45 @@ module _ {layout : Layout} {row : Row} {t : Target} {piece : SlicePiece} {doubts
 
   -- ---- the elements that a candidate reads
 
-  -- of some slices that a candidate reads, one is flagged where one lies on an image in doubt
-  slices_from : (c : Candidate) (a len : ℕ) → a + len ≤ slice_count row
-      → list_any (λ slice. reads_slice t.at.index c slice && flag_of doubts.doubtful slice) (range_with_len a len)
-      ≡ list_any (is_on_doubtful row.failing t) (map Slice (filter (reads_slice t.at.index c) (range_with_len a len)))
-  slices_from c a zero le = refl
-  slices_from c a (suc len) le = by (reads_slice t.at.index c a) (slices_from c (a + 1) len (omega (arith, le)))
-    where
-      by : (b : Bool)
-          → list_any (λ slice. reads_slice t.at.index c slice && flag_of doubts.doubtful slice) (range_with_len (a + 1) len)
-          ≡ list_any (is_on_doubtful row.failing t) (map Slice (filter (reads_slice t.at.index c) (range_with_len (a + 1) len)))
-          → ((b && flag_of doubts.doubtful a) || list_any (λ slice. reads_slice t.at.index c slice && flag_of doubts.doubtful slice)
-          (range_with_len (a + 1) len))
-          ≡ list_any (is_on_doubtful row.failing t)
-          (map Slice (cond b (a ∷ filter (reads_slice t.at.index c) (range_with_len (a + 1) len))
-          (filter (reads_slice t.at.index c) (range_with_len (a + 1) len))))
-      by true e =
-          ap (λ b. b || list_any (λ slice. reads_slice t.at.index c slice && flag_of doubts.doubtful slice) (range_with_len (a + 1) len))
-          (slice_doubtful a (omega (arith, le))) ∙ ap (λ b. is_on_doubtful row.failing t (Slice a) || b) e
-      by false e = e
+  -- of what comes of those that pass a test, one passes another where one of all passes both
+  any_of_map : {X Y : Type 0} (f : X → Y) (p : X → Bool) (q : Y → Bool) (xs : List X) → list_any (λ x. p x && q (f x)) xs ≡ list_any q (map f (filter p xs))
+  any_of_map f p q [] = refl
+  any_of_map f p q (x ∷ xs) = grind (arith, common_steps, any_of_map f p q xs)
+
+  -- two tests that agree at each of a list find one alike
+  any_same : {X : Type 0} (p q : X → Bool) (xs : List X) → ((x : X) → In x xs → p x ≡ q x) → list_any p xs ≡ list_any q xs
+  any_same p q [] h = refl
+  any_same p q (x ∷ xs) h = let e = h x (inl refl) in let rest = any_same p q xs (λ y i. h y (inr i)) in cc
 
   abbrev k : ℕ
   k = candidates.slice_count t
 
-  -- so of all slices
+  -- of the slices that a candidate reads, one is flagged where one lies on an image in doubt
   slices_read : (c : Candidate) → reads_flagged_slice doubts.doubtful k t.at.index c
       ≡ list_any (is_on_doubtful row.failing t) (map Slice (filter (reads_slice t.at.index c) (range_with_len 0 k)))
-  slices_read c = slices_from c 0 k (omega (arith, slices_are))
+  slices_read c = any_same (λ s. reads_slice t.at.index c s && flag_of doubts.doubtful s)
+      (λ s. reads_slice t.at.index c s && is_on_doubtful row.failing t (Slice s)) (range_with_len 0 k)
+      (λ s i. ap (λ b. reads_slice t.at.index c s && b) (slice_doubtful s (omega (arith, in_below k s i, slices_are))))
+      ∙ any_of_map Slice (reads_slice t.at.index c) (is_on_doubtful row.failing t) (range_with_len 0 k)
 
-  -- P's flag says whether it lies on an image in doubt
-  p_doubtful : flag_of doubts.doubtful k ≡ is_on_doubtful row.failing t P
-  p_doubtful = ap (flag_of doubts.doubtful) slices_are
-      ∙ on_doubtful (slice_count row) P (omega (arith, count.few)) (part_p (slice_count row) (slice_count row) refl)
-
-  -- so does Q's, in RAID6
-  q_doubtful : t.chunk.profile ≡ Raid6 → flag_of doubts.doubtful (k + 1) ≡ is_on_doubtful row.failing t Q
-  q_doubtful six =
-      let two : length (parities row.chunk.profile) ≡ 2 = ap (λ p. length (parities p)) (ap (λ c. c.profile) (sym at.on.chunk) ∙ six) in
-      ap (λ n. flag_of doubts.doubtful (n + 1)) slices_are
-      ∙ on_doubtful (slice_count row + 1) Q (omega (arith, two)) (part_q (slice_count row) (slice_count row + 1) (omega arith))
+  -- so does the flag of a parity
+  parity_doubtful : (p : Parity) → HasParity t.chunk.profile p → flag_of doubts.doubtful (element_of p k) ≡ is_on_doubtful row.failing t (part_of p)
+  parity_doubtful p has =
+      let at = parity_at row none (subst IsChunk at.on.chunk at.sited.keeps_rule) p (subst (λ c. HasParity c.profile p) at.on.chunk has) in
+      ap (λ n. flag_of doubts.doubtful (element_of p n)) slices_are ∙ on_doubtful (element_of p (slice_count row)) (part_of p) at.0 at.1
 
   -- a candidate reads a flagged element where it reads an image in doubt
   reads_is : (c : Candidate) → IsTwoParities k t.at.index c → (ReadsQ c → t.chunk.profile ≡ Raid6)
       → reads_flagged doubts.doubtful k t.at.index c ≡ reads_doubtful row.failing t c
   reads_is (Read part) two q =
       slice_doubtful t.at.index index_below ∙ ap (is_on_doubtful row.failing t) (sym two) ∙ sym (or-false (is_on_doubtful row.failing t part))
-  reads_is ByP two q = ap (λ b. b || reads_flagged_slice doubts.doubtful k t.at.index ByP) p_doubtful
+  reads_is ByP two q = ap (λ b. b || reads_flagged_slice doubts.doubtful k t.at.index ByP) (parity_doubtful parity.P tt)
       ∙ ap (λ b. is_on_doubtful row.failing t P || b) (slices_read ByP)
-  reads_is ByQ two q = ap (λ b. b || reads_flagged_slice doubts.doubtful k t.at.index ByQ) (q_doubtful (q tt))
+  reads_is ByQ two q = ap (λ b. b || reads_flagged_slice doubts.doubtful k t.at.index ByQ) (parity_doubtful parity.Q (q tt))
       ∙ ap (λ b. is_on_doubtful row.failing t Q || b) (slices_read ByQ)
-  reads_is (ByBoth j) two q = ap (λ b. b || (flag_of doubts.doubtful (k + 1) || reads_flagged_slice doubts.doubtful k t.at.index (ByBoth j))) p_doubtful
-      ∙ ap (λ b. is_on_doubtful row.failing t P || (b || reads_flagged_slice doubts.doubtful k t.at.index (ByBoth j))) (q_doubtful (q tt))
+  reads_is (ByBoth j) two q = ap (λ b. b || (flag_of doubts.doubtful (k + 1) || reads_flagged_slice doubts.doubtful k t.at.index (ByBoth j)))
+      (parity_doubtful parity.P tt)
+      ∙ ap (λ b. is_on_doubtful row.failing t P || (b || reads_flagged_slice doubts.doubtful k t.at.index (ByBoth j))) (parity_doubtful parity.Q (q tt))
       ∙ ap (λ b. is_on_doubtful row.failing t P || (is_on_doubtful row.failing t Q || b)) (slices_read (ByBoth j))
 
   -- as it is computed by the place in the row
@@ -189,7 +152,7 @@ module _ {layout : Layout} {row : Row} {t : Target} {piece : SlicePiece} {doubts
   pub first_of_ways : (c : Candidate) (n : ℕ) → slice_get (ways t) n ≡ Some c → filter (is_trusted row.failing t) (take n (ways t)) ≡ []
       → is_trusted row.failing t c ≡ true → first_trusted row.failing t ≡ Some c
   first_of_ways c n is before so =
-      ap (λ cs. slice_get cs 0) (trusted_ways row.failing t) ∙ first_so (is_trusted row.failing t) (ways t) n c is before so
+      ap (λ cs. slice_get cs 0) (trusted_ways row.failing t) ∙ first_kept (is_trusted row.failing t) (ways t) n c is before so
 
   -- where no way is trusted, no candidate is
   pub no_way : filter (is_trusted row.failing t) (ways t) ≡ [] → first_trusted row.failing t ≡ None

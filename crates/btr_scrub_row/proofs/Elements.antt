@@ -1,32 +1,24 @@
 -- Where the elements of a row lie, and the blocks in them.
 use Rattle.std.proofs.Common.{◌≡◌, ℕ, ◌+◌, ◌-◌, ◌*◌, ◌%◌, ◌^◌, ◌<◌, ◌≤◌, Bool, true, false, cond, List, [], length, slice_range, slice_get, Option, Some, None}
 use Rattle.std.proofs.Common.{IsSome, IsSomeAnd, leb, refl, sym, ap, ◌∙◌, subst, inl, inr, arith}
-use Rattle.std.proofs.lemmas.Bool.{false≢true, leb-true, le-leb}
-use Rattle.std.proofs.lemmas.Option.{same_Some}
-use Rattle.std.specs.Option.{option_map_or}
-use Rattle.btr_chunk.specs.Chunk.{IsChunk, data_count, mirror_count}
-use Rattle.btr_chunk.specs.Mapping.{HasPart, IsPosition, place_at, place_on, stripe_of}
-use Rattle.btr_chunk.specs.declared.place.Part.{Part}
+use Rattle.btr_scrub_row.proofs.Common.{CanWrite, CanWriteIn, FullStripe, HasPart, IsChunk, IsOfRow, IsOn, IsStripeOf, Layout, Part, Profile, Raid6, Range, Row}
+use Rattle.btr_scrub_row.proofs.Common.{Seen, Target, data_count, element, false≢true, option_map_or, range-range, range_in, range_in_element, range_of}
+use Rattle.btr_scrub_row.proofs.Common.{same_Some, size_of, without_copies}
+use Rattle.std.proofs.lemmas.Bool.{leb-true, le-leb}
+use Rattle.btr_chunk.specs.Chunk.{mirror_count}
+use Rattle.btr_chunk.specs.Mapping.{IsPosition, place_at, place_on, stripe_of}
 use Rattle.btr_chunk.specs.declared.place.Part.TheVariants as part
 use Rattle.btr_chunk.specs.declared.position.Elements.{Elements}
-use Rattle.btr_chunk.specs.declared.profile.Profile.{Profile}
-use Rattle.btr_chunk.specs.declared.profile.Profile.TheVariants.{Raid5, Raid6}
+use Rattle.btr_chunk.specs.declared.profile.Profile.TheVariants.{Raid5}
 use Rattle.btr_chunk.proofs.Bytes.{placed_part}
 use Rattle.btr_chunk.proofs.Rule.{data_count-some, facts, stripe-fits}
-use Rattle.btr_chunk.proofs.Rows.{without_copies}
-use Rattle.btr_rack.specs.Rack.{Seen, Slot, bytes_of, image_of, len_of, range_in}
-use Rattle.btr_rack.specs.declared.place.Place.{Place as Range}
-use Rattle.btr_read.specs.Candidates.{Target, range_of, range_on, size_of}
-use Rattle.btr_read.proofs.Pieces.{range-range}
+use Rattle.btr_rack.specs.Rack.{Slot, bytes_of, image_of, len_of}
+use Rattle.btr_read.specs.Candidates.{range_on}
 use Rattle.btr_read.specs.Candidates as candidates
 use Rattle.btr_read.specs.Cause.{LiesIn}
-use Rattle.btr_read.specs.Layout.{AreOpen, Layout, device_in}
+use Rattle.btr_read.specs.Layout.{AreOpen, device_in}
 use Rattle.btr_read.specs.declared.device.Device.{Device}
-use Rattle.btr_scrub_row.specs.Rows.{Row, element, range_in_element}
-use Rattle.btr_scrub_row.specs.Mending.{IsFullStripe, IsOfRow, IsOn}
-use Rattle.btr_scrub_row.specs.Memory.{IsStripeOf}
-use Rattle.btr_scrub_row.specs.Writing.{CanWrite, CanWriteIn}
-use Rattle.btr_scrub_row.specs.declared.stripe.FullStripe.{FullStripe}
+use Rattle.btr_scrub_row.specs.Mending.{IsFullStripe}
 
 -- a range that stands on a device
 pub record StandsOn (off len : ℕ) (o : Option Device) : Type 0 where
@@ -146,21 +138,15 @@ module _ {layout : Layout} {row : Row} {q : Part} (g : IsElement layout row q) w
     lies_at rest len lt le =
         let position : IsPosition row.chunk (record { row = row.number; index = 0; rest = rest }) =
         record { index = some_slices; inside = omega (arith, g.is.inside, g.is.number_is, lt) } in
-        ap (λ place. range_on place.offset len (device_in layout.devices place.devid))
-        (l.at (record { row = row.number; index = 0; rest = rest }) refl position)
-        ∙ range_stands (l.off + rest) len (device_in layout.devices l.devid) l.device l.there (omega (arith, l.within, le))
-        ∙ ap (λ slot. Some (range_in slot (l.off + rest) len)) l.slot_is
+        rw (l.at (record { row = row.number; index = 0; rest = rest }) refl position, ← l.slot_is)
+        (range_stands (l.off + rest) len (device_in layout.devices l.devid) l.device l.there (omega (arith, l.within, le)))
 
     -- a block in it
     pub block_lies : (t : Target) → IsOn row t → t.devices ≡ layout.devices → IsPosition t.chunk t.at → t.at.rest
         + size_of t ≤ 65536 → range_of t q ≡ Some (range_in l.slot (l.off + t.at.rest) (size_of t))
     block_lies t on devices position le =
-        ap (λ c. range_on (place_at c q t.at).offset (size_of t) (device_in t.devices (place_at c q t.at).devid)) on.chunk
-        ∙ ap (λ place. range_on place.offset (size_of t) (device_in t.devices place.devid))
-        (l.at t.at on.number (subst (λ c. IsPosition c t.at) on.chunk position))
-        ∙ ap (λ ds. range_on (l.off + t.at.rest) (size_of t) (device_in ds l.devid)) devices
-        ∙ range_stands (l.off + t.at.rest) (size_of t) (device_in layout.devices l.devid) l.device l.there (omega (arith, l.within, le))
-        ∙ ap (λ slot. Some (range_in slot (l.off + t.at.rest) (size_of t))) l.slot_is
+        rw (on.chunk, l.at t.at on.number (subst (λ c. IsPosition c t.at) on.chunk position), devices, ← l.slot_is)
+        (range_stands (l.off + t.at.rest) (size_of t) (device_in layout.devices l.devid) l.device l.there (omega (arith, l.within, le)))
 
     -- the whole element lies there
     whole : range_in_element layout row q 0 65536 ≡ Some (range_in l.slot l.off 65536)

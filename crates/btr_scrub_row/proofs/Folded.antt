@@ -1,7 +1,7 @@
 -- P and Q of one slice.
 use Rattle.std.proofs.Common.{◌≡◌, ℕ, List, [], ◌∷◌, ap, ◌∙◌, arith}
-use Rattle.btr_parity.specs.Slices.{IsSlice, parity_p, parity_q, plus, scaled, zeros}
-use Rattle.btr_parity.proofs.Folding.{parity_by_folding}
+use Rattle.btr_scrub_row.proofs.Common.{IsSlice, parity_by_folding, parity_p, parity_q, plus}
+use Rattle.btr_parity.specs.Slices.{scaled, zeros}
 use Rattle.btr_parity.proofs.Lost.{plus_comm, plus-zeros, scaled-zeros}
 
 zeros_first : (size : ℕ) (d : List ℕ) → IsSlice size d → plus (zeros size) d ≡ d

@@ -1,20 +1,15 @@
 -- A parity less the slices that a candidate reads, from the bytes in memory.
-use Rattle.std.proofs.Common.{◌≡◌, ℕ, ◌+◌, ◌*◌, ◌-◌, ◌<◌, ◌≤◌, true, false, List, length, drop, slice_range, sym, ap, ◌∙◌}
-use Rattle.std.proofs.Common.{subst, arith}
+use Rattle.std.proofs.Common.{◌≡◌, ℕ, ◌+◌, ◌*◌, ◌-◌, ◌<◌, ◌≤◌, true, false, List, length, drop, slice_range, sym, ap, ◌∙◌, subst, arith}
+use Rattle.btr_scrub_row.proofs.Common.{Candidate, GatheredSoFar, HasParity, Images, IsInMemory, IsSlice, Parity, Slice, SlicePiece, Target, element_of}
+use Rattle.btr_scrub_row.proofs.Common.{part_of, plus, reads_slice, size_of}
 use Rattle.std.proofs.lemmas.List.Elements.{All-take, All-drop}
 use Rattle.std.specs.List.{All}
-use Rattle.btr_read.specs.Gathering.{part_of, weighed}
-use Rattle.btr_chunk.specs.declared.place.Part.TheVariants.{Slice}
-use Rattle.btr_parity.specs.Slices.{IsSlice, plus}
-use Rattle.btr_read.specs.Candidates.{Target, size_of, slice_count, reads_slice, element}
-use Rattle.btr_read.specs.declared.candidate.Candidate.{Candidate}
+use Rattle.btr_read.specs.Gathering.{weighed}
+use Rattle.btr_read.specs.Candidates.{slice_count, element}
 use Rattle.btr_read.proofs.Pieces.{length-slice_range}
-use Rattle.btr_read.proofs.Sums.{GatheredSoFar, gathered_more, gathered_none, gathered_past}
-use Rattle.btr_scrub_copies.specs.Writes.{Images}
-use Rattle.btr_scrub_row.specs.Memory.{FitsIn, HasParity, IsInMemory, element_of}
-use Rattle.btr_read.specs.declared.parity.Parity.{Parity}
+use Rattle.btr_read.proofs.Sums.{gathered_more, gathered_none, gathered_past}
+use Rattle.btr_scrub_row.specs.Memory.{FitsIn}
 use Rattle.btr_read.specs.declared.parity.Parity.TheVariants as parity
-use Rattle.btr_scrub_row.specs.declared.slice_piece.SlicePiece.{SlicePiece}
 
 -- some bytes in memory
 pub cut_slice : (bytes : List ℕ) (a n : ℕ) → All (λ b. b < 256) bytes → a + n ≤ length bytes → IsSlice n (slice_range bytes a (a + n))

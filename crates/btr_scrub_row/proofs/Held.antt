@@ -1,30 +1,18 @@
 -- A row in memory has all that the candidates of its blocks read.
 use Rattle.std.proofs.Common.{◌≡◌, ℕ, ◌+◌, ◌*◌, ◌<◌, ◌≤◌, List, length, slice_range, Ok, IsNone, IsOkAnd, IsSome, refl, sym, ap, ◌∙◌, subst, arith}
-use Rattle.std.proofs.lemmas.Option.{same_Some}
-use Rattle.btr_chunk.specs.Chunk.{data_count, mirrors}
-use Rattle.btr_chunk.specs.Mapping.{HasPart}
-use Rattle.btr_chunk.specs.declared.place.Part.{Part}
-use Rattle.btr_chunk.specs.declared.place.Part.TheVariants.{Slice, P, Q}
-use Rattle.btr_chunk.specs.declared.profile.Profile.TheVariants.{Raid6}
+use Rattle.btr_scrub_row.proofs.Common.{FullStripe, HasParity, HasPart, HoldsRow, Images, IsInMemory, IsOn, IsSited, IsStripeOf, Layout, LiesAt, Parity}
+use Rattle.btr_scrub_row.proofs.Common.{Part, Raid6, Row, Slice, SlicePiece, Target, Want, data_count, element, element_count, element_of, mirrors, parities}
+use Rattle.btr_scrub_row.proofs.Common.{part_at, part_of, piece_in, range-range, range_of, same_Some, size_of, slice_count, sought, sought_of}
 use Rattle.btr_read.specs.Candidates as candidates
-use Rattle.btr_read.specs.Candidates.{Target, range_of, size_of}
-use Rattle.btr_read.specs.Fate.{sought}
-use Rattle.btr_read.specs.Layout.{Layout}
 use Rattle.btr_read.specs.Want.{len_of}
-use Rattle.btr_read.specs.declared.want.Want.{Want}
-use Rattle.btr_read.proofs.Fates.{sought_of}
-use Rattle.btr_scrub_copies.specs.Writes.{Images}
-use Rattle.btr_scrub_row.specs.Rows.{Row, element, parities, slice_count}
-use Rattle.btr_scrub_row.specs.Mending.{IsOn}
-use Rattle.btr_scrub_row.specs.Memory.{FitsIn, HoldsRow, IsInMemory, IsSited, IsPieceOf, IsStripeOf, IsViewed, LiesAt, element_count, part_at, piece_in}
+use Rattle.btr_scrub_row.specs.Memory.{FitsIn, IsPieceOf, IsViewed}
 use Rattle.btr_scrub_row.specs.Judging.{IsIn, IsPlaced}
 use Rattle.btr_scrub_row.specs.declared.row_view.RowView.{RowView}
-use Rattle.btr_scrub_row.specs.declared.slice_piece.SlicePiece.{SlicePiece}
-use Rattle.btr_scrub_row.specs.declared.stripe.FullStripe.{FullStripe}
-use Rattle.btr_read.proofs.Pieces.{range-range}
 use Rattle.btr_scrub_row.proofs.Elements.{Lies, block_bytes, block_lies, its_element, lies}
-use Rattle.btr_scrub_row.proofs.Shapes.{part_p, part_q, part_slice, row_counted}
+use Rattle.btr_scrub_row.proofs.Shapes.{part_slice, row_counted, parity_at}
 use Rattle.btr_scrub_copies.proofs.Copied.{same_target}
+use Rattle.btr_read.specs.declared.parity.Parity.TheVariants as parity
+use Rattle.btr_scrub_row.proofs.Parts.{parity_there}
 
 -- a block that lies in the row of a number of a chunk lies in each that is so called
 pub on_row : (layout : Layout) (stripe : FullStripe) (want : Want) (row : Row) (t : Target) → IsIn layout stripe want → IsStripeOf layout stripe row
@@ -109,7 +97,6 @@ module _ {layout : Layout} {stripe : FullStripe} {row : Row} {want : Want} {t : 
   -- all that its candidates read is in memory where the row is
   pub held : (images : Images) (bytes : List ℕ) → HoldsRow images layout row bytes → IsInMemory images t piece bytes
   held images bytes holds =
-      let count = row_counted row b.of.is.parity b.of.keeps_rule in
       let no_copies : IsNone (mirrors row.chunk) = subst IsNone (sym b.of.is.parity) refl in
       record {
         place = sited.place;
@@ -121,15 +108,19 @@ module _ {layout : Layout} {stripe : FullStripe} {row : Row} {want : Want} {t : 
           slices = λ i lt.
               let below : i < slice_count row = omega (arith, lt, slices_are) in
               piece_held images bytes i (Slice i) holds (omega (arith, below)) (part_slice (slice_count row) i below) (no_copies, below);
-          p = ap (piece_in bytes piece) (sym slices_are) ∙ piece_held images bytes (slice_count row) P holds (omega (arith, count.few))
-              (part_p (slice_count row) (slice_count row) refl) no_copies;
-          q = λ six.
-              let six' : row.chunk.profile ≡ Raid6 = ap (λ c. c.profile) (sym b.on.chunk) ∙ six in
-              let two : length (parities row.chunk.profile) ≡ 2 = ap (λ p. length (parities p)) six' in
-              ap (λ n. piece_in bytes piece (n + 1)) (sym slices_are)
-              ∙ piece_held images bytes (slice_count row + 1) Q holds (omega (arith, two)) (part_q (slice_count row) (slice_count row + 1) (omega arith)) six';
+          p = parity_held parity.P tt;
+          q = parity_held parity.Q;
         };
       }
+    where
+      parity_held : (p : Parity) → HasParity t.chunk.profile p → piece_in bytes piece (element_of p (candidates.slice_count t))
+          ≡ candidates.element images t (part_of p)
+      parity_held p has =
+          let has' = subst (λ c. HasParity c.profile p) b.on.chunk has in
+          let at = parity_at row b.of.is.parity b.of.keeps_rule p has' in
+          ap (λ n. piece_in bytes piece (element_of p n)) (sym slices_are)
+          ∙ piece_held images bytes (element_of p (slice_count row)) (part_of p) holds at.0 at.1
+          (parity_there layout stripe row b.of p (subst (λ q. HasParity q p) (sym b.of.shape.profile) has'))
 
   -- and it lies in memory
   pub fits_in : (bytes : List ℕ) → length row.chunk.stripes * 65536 ≤ length bytes → FitsIn bytes piece

@@ -1,29 +1,20 @@
 -- What one more block adds to the new data, the counts and the columns.
-use Rattle.std.proofs.Common.{◌≡◌, ◌≢◌, ℕ, zero, suc, ◌+◌, ◌*◌, ◌<◌, ◌≤◌, ◌==◌, ◌&&◌, ◌||◌, Bool, false, not, cond, List, [], ◌∷◌, ◌++◌, length, map}
-use Rattle.std.proofs.Common.{replicate, take, get_or, nat_lt, slice_range, Option, Some, None, Ok, count_by, refl, sym, ap, ◌∙◌, subst, inl, inr}
-use Rattle.std.proofs.Common.{arith}
-use Rattle.std.specs.List.{filter, fold, list_any, sum_by}
-use Rattle.std.specs.Option.{option_map_or}
+use Rattle.std.proofs.Common.{◌≡◌, ℕ, zero, suc, ◌+◌, ◌*◌, ◌<◌, ◌≤◌, ◌==◌, ◌&&◌, ◌||◌, Bool, false, not, cond, List, [], ◌∷◌, ◌++◌, length, map, replicate}
+use Rattle.std.proofs.Common.{take, get_or, nat_lt, slice_range, Option, Some, None, Ok, count_by, refl, sym, ap, ◌∙◌, subst, inl, inr, arith, true}
+use Rattle.btr_scrub_row.proofs.Common.{AreJudged, FullStripe, HoldsRow, Images, IsOn, IsStripeOf, Judged, Layout, Row, Slice, Target, Want, element}
+use Rattle.btr_scrub_row.proofs.Common.{element_count, element_in, filter, is_checked, is_sure, list_any, meets_piece, mending_writes, new_bytes, option_map_or}
+use Rattle.btr_scrub_row.proofs.Common.{pasted, size_of, slice_count, sought}
+use Rattle.std.specs.List.{fold, sum_by}
 use Rattle.std.proofs.Math.Bool.{or-false}
 use Rattle.std.proofs.lemmas.Bool.{cases_eq, eq-eqb, ne_eqb}
 use Rattle.std.proofs.lemmas.List.{get_or-replicate, length-map}
 use Rattle.std.proofs.lemmas.List.Elements.{filter-append}
 use Rattle.std.proofs.lemmas.List.Folds.{list_any-append}
 use Rattle.std.proofs.lemmas.List.Sums.{fold-append, sum_by_push}
-use Rattle.btr_chunk.specs.declared.place.Part.TheVariants.{Slice}
-use Rattle.btr_rack.specs.Rack.{pasted}
-use Rattle.btr_read.specs.Candidates.{Target, size_of}
-use Rattle.btr_read.specs.Fate.{sought}
-use Rattle.btr_read.specs.Layout.{Layout}
-use Rattle.btr_read.specs.declared.want.Want.{Want}
-use Rattle.btr_scrub_copies.specs.Writes.{Images}
-use Rattle.btr_scrub_row.specs.Wanted.{new_bytes, is_checked, is_lost_block, mending_writes, wrong_parts}
-use Rattle.btr_scrub_row.specs.Rows.{Row, element, is_sure, meets, slice_count, with_block}
-use Rattle.btr_scrub_row.specs.Mending.{IsOn, IsRowOf, is_at}
-use Rattle.btr_scrub_row.specs.Memory.{HoldsRow, IsStripeOf, element_count, element_in}
-use Rattle.btr_scrub_row.specs.Judging.{AreJudged, FitsVerdict, CountsVerdict, IsIn, meets_piece}
-use Rattle.btr_scrub_row.specs.declared.stripe.FullStripe.{FullStripe}
-use Rattle.btr_scrub_row.specs.declared.judged.Judged.{Judged}
+use Rattle.btr_scrub_row.specs.Wanted.{is_lost_block, wrong_parts}
+use Rattle.btr_scrub_row.specs.Rows.{meets, with_block}
+use Rattle.btr_scrub_row.specs.Mending.{IsRowOf, is_at}
+use Rattle.btr_scrub_row.specs.Judging.{FitsVerdict, CountsVerdict, IsIn}
 use Rattle.btr_scrub_row.specs.declared.judging.Verdict.{Verdict}
 use Rattle.btr_scrub_row.proofs.Shapes.{part_slice}
 use Rattle.btr_scrub_row.proofs.Pasted.{element_other, front_range, range_around}
@@ -58,36 +49,24 @@ module _ (images : Images) (layout : Layout) (row : Row) (ts : List Target) (t :
       let split : fold f z (filter p (ts ++ t ∷ [])) ≡ fold f (element_in old i) (filter p (t ∷ [])) =
       ap (fold f z) (filter-append p ts (t ∷ [])) ∙ fold-append f z (filter p ts) (filter p (t ∷ []))
       ∙ ap (λ x. fold f x (filter p (t ∷ []))) (sym (so_far.slices i lt)) in
-      ap (λ xs. element_in xs i) fits.pasted_is ∙ by (new_bytes images row.failing t) refl i lt ∙ sym split
+      ap (λ xs. element_in xs i) fits.pasted_is ∙ by (new_bytes images row.failing t) refl ∙ sym split
     where
-      by : (o : Option (List ℕ)) → new_bytes images row.failing t ≡ o → (i : ℕ) → i < slice_count row
-          → element_in (option_map_or (pasted old (t.at.index * 65536 + t.at.rest)) o old) i
-          ≡ fold (with_block images layout (new_bytes images row.failing)) (element_in old i) (filter (λ t. t.at.index == i) (t ∷ []))
-      by o e i lt = elim (cases_eq t.at.index i) [
-        | inl same ↦
-            around o e i lt same
-            ∙ sym (ap (λ b. fold (with_block images layout (new_bytes images row.failing)) (element_in old i) (cond b (t ∷ []) [])) (eq-eqb t.at.index i same))
-        | inr other ↦
-            apart o e i lt other
-            ∙ sym (ap (λ b. fold (with_block images layout (new_bytes images row.failing)) (element_in old i) (cond b (t ∷ []) [])) (ne_eqb t.at.index i other))
-      ]
+      by : (o : Option (List ℕ)) → new_bytes images row.failing t ≡ o → element_in (option_map_or (pasted old (t.at.index * 65536 + t.at.rest)) o old) i
+          ≡ fold (with_block images layout (new_bytes images row.failing)) (element_in old i) (cond (t.at.index == i) (t ∷ []) [])
+      by None e = same (t.at.index == i)
         where
-          around : (o : Option (List ℕ)) → new_bytes images row.failing t ≡ o → (i : ℕ) → i < slice_count row → t.at.index ≡ i
-              → element_in (option_map_or (pasted old (t.at.index * 65536 + t.at.rest)) o old) i
-              ≡ with_block images layout (new_bytes images row.failing) (element_in old i) t
-          around None e i lt same = sym (ap (λ o. option_map_or (pasted (element_in old i) t.at.rest) o (element_in old i)) e)
-          around (Some bytes) e i lt same =
-              let n = long bytes e in
-              range_around old (t.at.index * 65536 + t.at.rest) bytes (omega (arith, n, below, inside, room)) (i * 65536) t.at.rest 65536
-              (omega (arith, same)) (omega (arith, n, inside)) (omega (arith, lt, room))
-              ∙ sym (ap (λ o. option_map_or (pasted (element_in old i) t.at.rest) o (element_in old i)) e)
-
-          apart : (o : Option (List ℕ)) → new_bytes images row.failing t ≡ o → (i : ℕ) → i < slice_count row → t.at.index ≢ i
-              → element_in (option_map_or (pasted old (t.at.index * 65536 + t.at.rest)) o old) i ≡ element_in old i
-          apart None e i lt other = refl
-          apart (Some bytes) e i lt other =
-              let n = long bytes e in
-              element_other old t.at.index t.at.rest i bytes (omega (arith, n, below, inside, room)) (omega (arith, n, inside)) (λ s. other (sym s))
+          same : (b : Bool) → element_in old i ≡ fold (with_block images layout (new_bytes images row.failing)) (element_in old i) (cond b (t ∷ []) [])
+          same true = rw e refl
+          same false = refl
+      by (Some bytes) e =
+          let n = long bytes e in
+          elim (cases_eq t.at.index i) [
+            | inl same ↦ rw (eq-eqb t.at.index i same, e)
+                (range_around old (t.at.index * 65536 + t.at.rest) bytes (omega (arith, n, below, inside, room)) (i * 65536) t.at.rest 65536
+                (omega (arith, same)) (omega (arith, n, inside)) (omega (arith, lt, room)))
+            | inr other ↦ rw (ne_eqb t.at.index i other)
+                (element_other old t.at.index t.at.rest i bytes (omega (arith, n, below, inside, room)) (omega (arith, n, inside)) (λ s. other (sym s)))
+          ]
 
   -- the blocks so far and one more were judged
   pub judged_more : ((bytes : List ℕ) → new_bytes images row.failing t ≡ Some bytes → length bytes ≡ size_of t)

@@ -1,3 +1,4 @@
+pub mod Common
 pub mod Gathered
 pub mod Accepted
 pub mod Pasted

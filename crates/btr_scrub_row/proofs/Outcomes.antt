@@ -1,27 +1,21 @@
 -- What mending a row comes to.
 use Rattle.std.proofs.Common.{◌≡◌, ℕ, Bool, true, false, cond, List, [], ◌++◌, length, Result, Some, Ok, Err, IsErrAnd, inr, sym, ap, ◌∙◌, subst}
-use Rattle.std.proofs.lemmas.Bool.{false≢true}
-use Rattle.std.proofs.lemmas.Option.{same_Some}
-use Rattle.btr_rack.specs.Rack.{NoneFailed, OnlyReads, Seen}
-use Rattle.btr_rack.specs.declared.place.Place.{Place as Range}
-use Rattle.btr_read.specs.Layout.{Layout}
+use Rattle.btr_scrub_row.proofs.Common.{DoesWrites, FullStripe, Images, IsOfRow, IsPrepared, IsStripeOf, Judged, Layout, Range, Row, Seen, Write, false≢true}
+use Rattle.btr_scrub_row.proofs.Common.{parity_count, same_Some, telling, told_writes}
+use Rattle.btr_rack.specs.Rack.{NoneFailed, OnlyReads}
 use Rattle.btr_read.proofs.ReadsOn.{same_held}
-use Rattle.btr_read.proofs.Trials.{told, telling}
+use Rattle.btr_read.proofs.Trials.{told}
 use Rattle.btr_scrub_copies.specs.Syncing.{IsSyncOr, Strands, plain}
 use Rattle.btr_scrub_copies.specs.Turns.{TakesTurns, WaitsInTurn}
-use Rattle.btr_scrub_copies.specs.Writes.{AccountsMend, DoesWrites, Images, Write, writes_if}
+use Rattle.btr_scrub_copies.specs.Writes.{AccountsMend, writes_if}
 use Rattle.btr_scrub_copies.specs.declared.mended.MendFault.{MendFault}
 use Rattle.btr_scrub_copies.proofs.Doing.{does_as, does_as_halt, does_failed, does_reads, passed}
 use Rattle.btr_scrub_copies.proofs.Turning.{fails_plain, read_at, read_marked, read_stranded, read_waits, reads_plain, strands_same, turns_behind}
-use Rattle.btr_scrub_row.specs.Rows.{Row, parities_writes, rebuilt_writes, row_writes}
-use Rattle.btr_scrub_row.specs.Mending.{CountsRow, HasRoom, IsOfRow, MendsRow, mended_row, parity_count}
-use Rattle.btr_scrub_row.specs.Memory.{IsStripeOf}
-use Rattle.btr_scrub_row.specs.Preparing.{IsPrepared, TellsRow}
-use Rattle.btr_scrub_row.specs.Writing.{told_writes}
+use Rattle.btr_scrub_row.specs.Rows.{parities_writes, rebuilt_writes, row_writes}
+use Rattle.btr_scrub_row.specs.Mending.{CountsRow, HasRoom, MendsRow, mended_row}
+use Rattle.btr_scrub_row.specs.Preparing.{TellsRow}
 use Rattle.btr_scrub_row.specs.declared.buffer.RowBuffer.{RowBuffer}
-use Rattle.btr_scrub_row.specs.declared.judged.Judged.{Judged}
 use Rattle.btr_scrub_row.specs.declared.mended.MendedRow.{MendedRow}
-use Rattle.btr_scrub_row.specs.declared.stripe.FullStripe.{FullStripe}
 
 -- a buffer that has room for a row has room for each that is so called
 pub room_all : {layout : Layout} {stripe : FullStripe} {row row' : Row} {buffer : RowBuffer} → IsStripeOf layout stripe row

@@ -1,12 +1,11 @@
 -- Bytes that are written over others in memory, and ranges of what comes of it.
 use Rattle.std.proofs.Common.{◌≡◌, ◌≢◌, ◌⊎◌, ℕ, ◌+◌, ◌*◌, ◌-◌, ◌<◌, ◌≤◌, List, ◌++◌, length, get_or, take, drop, slice_range, sym, ap, ◌∙◌, inl, inr, arith}
 use Rattle.std.proofs.Common.{append_assoc, length-append, length-take, length-drop}
+use Rattle.btr_scrub_row.proofs.Common.{element_in, pasted, range-range}
 use borrow.Rule.Slice.PartMut.{put_mid}
 use Rattle.std.proofs.lemmas.Bool.{cases_lt}
 use Rattle.std.proofs.lemmas.List.{drop-drop, same_lists, get_or-take, get_or-drop, get_or_append_left, get_or-append_right}
-use Rattle.btr_rack.specs.Rack.{pasted}
-use Rattle.btr_read.proofs.Pieces.{length-first, range-range}
-use Rattle.btr_scrub_row.specs.Memory.{element_in}
+use Rattle.btr_read.proofs.Pieces.{length-first}
 
 module _ (image : List ℕ) (off : ℕ) (bytes : List ℕ) (fits : off + length bytes ≤ length image) where
   abbrev rest : List ℕ

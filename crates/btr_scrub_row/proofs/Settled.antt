@@ -1,28 +1,21 @@
 -- What a block of a row gets, and what is written and counted for it.
-use Rattle.std.proofs.Common.{◌≡◌, ℕ, suc, ◌≤◌, ◌&&◌, ◌||◌, Bool, true, false, not, cond, List, [], ◌∷◌, length, map, take, nat_lt, Option, Some, None}
-use Rattle.std.proofs.Common.{is_none, is_some, refl, sym, ap, ◌∙◌, arith, length-take}
-use Rattle.std.specs.List.{cons_option, filter, range_with_len}
-use Rattle.std.specs.Option.{option_map, option_map_or}
-use Rattle.std.specs.Str.{bytes_eq}
-use Rattle.std.proofs.lemmas.Bool.{lt-ltb}
-use Rattle.std.proofs.lemmas.Option.{same_Some}
-use Rattle.btr_chunk.specs.Chunk.{mirrors}
-use Rattle.btr_chunk.specs.declared.place.Part.{Part}
-use Rattle.btr_chunk.specs.declared.place.Part.TheVariants.{Mirror, Slice}
-use Rattle.btr_rack.specs.declared.place.Place.{Place as Range}
-use Rattle.btr_read.specs.Candidates.{Target, element, range_of, size_of}
-use Rattle.btr_read.specs.Fate.{is_plain}
-use Rattle.btr_read.specs.Layout.{Layout}
+use Rattle.std.proofs.Common.{◌≡◌, ℕ, ◌≤◌, ◌&&◌, ◌||◌, Bool, true, false, not, cond, List, [], ◌∷◌, length, map, take, nat_lt, Option, Some, None, is_none}
+use Rattle.std.proofs.Common.{is_some, refl, sym, ap, ◌∙◌, arith, length-take}
+use Rattle.btr_scrub_row.proofs.Common.{Doubts, Images, KnowsDoubts, Layout, LiesAt, Range, Row, Slice, SlicePiece, Target, Write, bytes_eq, common_steps}
+use Rattle.btr_scrub_row.proofs.Common.{filter, flag_of, is_checked, is_on_behind, is_plain, is_sure, mending_writes, mirrors, new_bytes, option_map_or}
+use Rattle.btr_scrub_row.proofs.Common.{range_of, range_with_len, same_Some, size_of}
+use Rattle.std.specs.List.{cons_option}
+use Rattle.std.specs.Option.{option_map}
+use Rattle.btr_chunk.specs.declared.place.Part.TheVariants.{Mirror}
+use Rattle.btr_read.specs.Candidates.{element}
 use Rattle.btr_scrub_copies.specs.Blocks.{accepted, bad_parts, block_writes, copy_writes, is_good, is_lost, is_sound, own_parts}
-use Rattle.btr_scrub_copies.specs.Fresh.{fresh, fresh_writes, is_on_behind, is_stale, stale_beside, stale_parts}
-use Rattle.btr_scrub_copies.specs.Writes.{Images, Write}
-use Rattle.btr_scrub_row.specs.Wanted.{new_bytes, is_checked, is_lost_block, mending_writes, renewed, wrong_parts}
-use Rattle.btr_scrub_row.specs.Rows.{Row, has_doubtful, is_sure}
-use Rattle.btr_scrub_row.specs.Memory.{IsAccepted, IsRenewed, IsSettled, KnowsDoubts, LiesAt, flag_of}
-use Rattle.btr_scrub_row.specs.declared.doubts.Doubts.{Doubts}
+use Rattle.btr_scrub_copies.specs.Fresh.{fresh, fresh_writes, is_stale, stale_beside, stale_parts}
+use Rattle.btr_scrub_row.specs.Wanted.{is_lost_block, renewed, wrong_parts}
+use Rattle.btr_scrub_row.specs.Rows.{has_doubtful}
+use Rattle.btr_scrub_row.specs.Memory.{IsAccepted, IsRenewed, IsSettled}
 use Rattle.btr_scrub_row.specs.declared.settling.Settled.{Settled}
-use Rattle.btr_scrub_row.specs.declared.slice_piece.SlicePiece.{SlicePiece}
 use Rattle.btr_scrub_row.proofs.Doubting.{own_doubtful}
+use Rattle.std.proofs.lemmas.Bool.Decides.{nat_tests}
 
 -- bytes, written at a range
 abbrev pub written_at : Range → List ℕ → Write
@@ -33,20 +26,14 @@ pub mending_is : (images : Images) (row : Row) (t : Target) → mending_writes i
     ≡ option_map_or (λ bytes. copy_writes t bytes (wrong_parts images row.failing t)) (new_bytes images row.failing t) []
 mending_is images row t = by (is_plain t.want)
   where
-    none_at : (o : Option (List ℕ)) → option_map_or (λ bytes. copy_writes t bytes []) o [] ≡ []
-    none_at None = refl
-    none_at (Some bytes) = refl
-
-    plain : (parts : List Part) → option_map_or (λ bytes. copy_writes t bytes parts) (fresh images row.failing t) []
-        ≡ option_map_or (λ bytes. copy_writes t bytes parts) (cond (nat_lt 0 (length parts)) (fresh images row.failing t) None) []
-    plain [] = none_at (fresh images row.failing t)
-    plain (part ∷ parts) = sym (ap (λ b. option_map_or (λ bytes. copy_writes t bytes (part ∷ parts)) (cond b (fresh images row.failing t) None) [])
-        (lt-ltb 0 (suc (length parts)) (omega arith)))
+    none_for : {X Y : Type 0} (f : X → List Y → List Write) → ((x : X) → f x [] ≡ []) → (parts : List Y) (o : Option X)
+        → option_map_or (λ x. f x parts) o [] ≡ option_map_or (λ x. f x parts) (cond (nat_lt 0 (length parts)) o None) []
+    none_for f none parts o = grind (arith, common_steps, nat_tests, none)
 
     by : (b : Bool) → cond b (fresh_writes images row.failing t) (block_writes images t)
         ≡ option_map_or (λ bytes. copy_writes t bytes (cond b (stale_parts images row.failing t) (bad_parts images t)))
         (cond b (renewed images row.failing t) (accepted images t)) []
-    by true = plain (stale_parts images row.failing t)
+    by true = none_for (copy_writes t) (λ bytes. refl) (stale_parts images row.failing t) (fresh images row.failing t)
     by false = refl
 
 -- ---- of a row
@@ -85,8 +72,7 @@ module _ (images : Images) (row : Row) (t : Target) (none : mirrors t.chunk ≡ 
   }
     where
       turned : (b : Bool) → cond b (Slice t.at.index ∷ []) [] ≡ cond (not b) [] (Slice t.at.index ∷ [])
-      turned true = refl
-      turned false = refl
+      turned b = grind arith
 
       by : (b : Bool) → (b ≡ true → fresh images row.failing t ≡ Some (take (size_of t) block))
           → cond (nat_lt 0 (length (cond b (Slice t.at.index ∷ []) []))) (fresh images row.failing t) None ≡ cond b (Some (take (size_of t) block)) None
@@ -96,8 +82,7 @@ module _ (images : Images) (row : Row) (t : Target) (none : mirrors t.chunk ≡ 
   -- ---- a checked block
 
   not_wrong : (b : Bool) → cond (not b) (Slice t.at.index ∷ []) [] ≡ cond b [] (Slice t.at.index ∷ [])
-  not_wrong true = refl
-  not_wrong false = refl
+  not_wrong b = grind arith
 
   -- where a candidate passes, the block gets its bytes
   pub settled_accepted : (block : List ℕ) (good : Bool) → is_plain t.want ≡ false → IsAccepted images t block good
@@ -112,8 +97,7 @@ module _ (images : Images) (row : Row) (t : Target) (none : mirrors t.chunk ≡ 
 
 module _ (images : Images) (row : Row) (t : Target) (block : List ℕ) (settled : Settled) (is : IsSettled images row t block settled) where
   by_cond : (b : Bool) → length (cond b [] (Slice t.at.index ∷ [])) ≡ cond (not b) 1 0
-  by_cond true = refl
-  by_cond false = refl
+  by_cond b = grind (arith, common_steps)
 
   -- the block has one wrong place where something is wrong at its own
   pub length-wrong : length (wrong_parts images row.failing t) ≡ cond (not settled.good) 1 0
@@ -127,16 +111,11 @@ module _ (images : Images) (row : Row) (t : Target) (block : List ℕ) (settled 
     where
       by : (good given : Bool) → option_map_or (λ bytes. copy_writes t bytes (cond good [] (Slice t.at.index ∷ [])))
           (cond given (Some (take (size_of t) block)) None) [] ≡ cond (not good && given) (copy_writes t (take (size_of t) block) (Slice t.at.index ∷ [])) []
-      by true true = refl
-      by true false = refl
-      by false true = refl
-      by false false = refl
+      by good given = grind (arith, common_steps)
 
   -- a write is to be made unless the place is good, or nothing is given
   written_if : (good given : Bool) → (not good && given) ≡ not (good || not given)
-  written_if true given = refl
-  written_if false true = refl
-  written_if false false = refl
+  written_if good given = grind arith
 
   -- nothing is written where nothing is wrong, or nothing given
   pub writes_not : (settled.good || not settled.given) ≡ true → [] ≡ mending_writes images row.failing t
@@ -158,16 +137,14 @@ module _ (images : Images) (row : Row) (t : Target) (block : List ℕ) (settled 
     length-writes = ap length (writes_as ∙ ap (λ ws. cond (not settled.good && settled.given) ws []) one) ∙ by (not settled.good && settled.given)
       where
         by : (b : Bool) → length (cond b (written_at range (take (size_of t) block) ∷ []) []) ≡ cond b 1 0
-        by true = refl
-        by false = refl
+        by b = grind (arith, common_steps)
 
   -- it is lost where it is a checked block and gets nothing
   pub lost_is : is_lost_block images t ≡ (is_checked t && not settled.given)
   lost_is = by (is_plain t.want) refl
     where
       none_is : (b : Bool) → is_none (cond b (Some (take (size_of t) block)) None) ≡ not b
-      none_is true = refl
-      none_is false = refl
+      none_is b = grind arith
 
       by : (b : Bool) → is_plain t.want ≡ b → (not b && is_lost images t) ≡ (not b && not settled.given)
       by true e = refl
@@ -185,12 +162,10 @@ module _ (images : Images) (row : Row) (t : Target) (block : List ℕ) (settled 
   -- what stands in its place in the new data is sure
   module _ (layout : Layout) (piece : SlicePiece) (doubts : Doubts) (at : LiesAt layout row t piece) (knows : KnowsDoubts layout row doubts) where
     some_is : (b : Bool) → is_some (cond b (Some (take (size_of t) block)) None) ≡ b
-    some_is true = refl
-    some_is false = refl
+    some_is b = grind arith
 
     twice : (b : Bool) → not (not b) ≡ b
-    twice true = refl
-    twice false = refl
+    twice b = grind arith
 
     -- what was computed to be sure is so by the definition
     pub sure_is : (settled.given || not (is_checked t) && (doubts.some && not (flag_of doubts.doubtful piece.index))) ≡ is_sure images layout row t

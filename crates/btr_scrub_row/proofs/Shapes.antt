@@ -1,13 +1,11 @@
 -- How many elements a row has, and which parts they are.
-use Rattle.std.proofs.Common.{◌≡◌, ℕ, ◌+◌, ◌<◌, ◌≤◌, ◌==◌, true, cond, length, None, sym, ap, ◌∙◌, subst, inl, inr, arith}
+use Rattle.std.proofs.Common.{◌≡◌, ℕ, ◌+◌, ◌<◌, ◌≤◌, ◌==◌, true, cond, length, None, sym, ap, ◌∙◌, subst, inl, inr, arith, refl}
+use Rattle.btr_scrub_row.proofs.Common.{HasParity, IsChunk, P, Parity, Profile, Q, Row, Slice, data_count, element_count, element_of, mirrors, parities}
+use Rattle.btr_scrub_row.proofs.Common.{part_at, part_of, slice_count, without_copies}
 use Rattle.std.proofs.lemmas.Bool.{eq-eqb, ne_eqb, leb-true, le-ltb, lt-ltb}
-use Rattle.btr_chunk.specs.Chunk.{IsChunk, data_count, has_count, mirror_count, mirrors}
-use Rattle.btr_chunk.specs.declared.place.Part.TheVariants.{Slice, P, Q}
-use Rattle.btr_chunk.specs.declared.profile.Profile.{Profile}
+use Rattle.btr_chunk.specs.Chunk.{has_count, mirror_count}
 use Rattle.btr_chunk.proofs.Rule.{facts}
-use Rattle.btr_chunk.proofs.Rows.{without_copies}
-use Rattle.btr_scrub_row.specs.Rows.{Row, parities}
-use Rattle.btr_scrub_row.specs.Memory.{part_at}
+use Rattle.btr_read.specs.declared.parity.Parity.TheVariants as parity
 
 -- the counts of a profile with parity
 pub record Counted (p : Profile) (n : ℕ) : Type 0 where
@@ -40,3 +38,11 @@ part_p k e same = ap (λ b. cond b (Slice e) (cond (e == k) P Q)) (le-ltb e k (o
 pub part_q : (k e : ℕ) → k < e → part_at k e ≡ Q
 part_q k e lt = ap (λ b. cond b (Slice e) (cond (e == k) P Q)) (le-ltb e k (omega (arith, lt)))
     ∙ ap (λ b. cond b P Q) (ne_eqb e k (λ same. absurd (omega (arith, same, lt))))
+
+-- a parity of a row comes behind its slices
+pub parity_at : (row : Row) → mirrors row.chunk ≡ None → IsChunk row.chunk → (p : Parity) → HasParity row.chunk.profile p
+    → (element_of p (slice_count row) < element_count row) × (part_at (slice_count row) (element_of p (slice_count row)) ≡ part_of p)
+parity_at row none is parity.P has = let count = row_counted row none is in (omega (arith, count.few), part_p (slice_count row) (slice_count row) refl)
+parity_at row none is parity.Q has =
+    let two : length (parities row.chunk.profile) ≡ 2 = ap (λ p. length (parities p)) has in
+    (omega (arith, two), part_q (slice_count row) (slice_count row + 1) (omega arith))

@@ -1,29 +1,19 @@
 -- Writes of a row, by what was told, one after another.
 use Rattle.std.proofs.Common.{◌≡◌, ℕ, ◌+◌, ◌<◌, Bool, List, [], ◌∷◌, ◌++◌, length, take, drop, get_or, append-nil, Option, Some, None, IfSome, Result, Ok, Err}
 use Rattle.std.proofs.Common.{refl, sym, ap, ◌∙◌, subst, arith}
-use Rattle.std.specs.List.{flat_map}
+use Rattle.btr_scrub_row.proofs.Common.{CanWrite, DoesWrites, Images, Layout, Range, Seen, Write, flat_map, take_more, told_writes}
 use Rattle.std.proofs.lemmas.Grind.{flat_map-append}
-use Rattle.std.proofs.lemmas.List.{take-append-drop, take_more}
-use Rattle.btr_rack.specs.Rack.{Seen}
-use Rattle.btr_rack.specs.declared.place.Place.{Place as Range}
-use Rattle.btr_scrub_copies.specs.Writes.{AreAmong, AreWritable, DoesWrites, Images, LeaveImages, Write, ranges_of}
-use Rattle.btr_scrub_copies.proofs.Doing.{does_halt, does_then}
+use Rattle.std.proofs.lemmas.List.{take-append-drop}
+use Rattle.btr_scrub_copies.specs.Writes.{AreAmong, AreWritable, LeaveImages, ranges_of}
+use Rattle.btr_scrub_copies.proofs.Doing.{does_halt, does_then, retold}
 use Rattle.btr_scrub_copies.specs.declared.mended.MendFault.{MendFault}
-use Rattle.btr_read.specs.Layout.{AreOpen, Layout}
-use Rattle.btr_scrub_row.specs.Writing.{AreTold, CanWrite, told_writes}
+use Rattle.btr_read.specs.Layout.{AreOpen}
+use Rattle.btr_scrub_row.specs.Writing.{AreTold}
 
 -- no write is told where the images aren't
 pub does_untold : {A : Type 0} (P : Range → Type 0) (f g : Images → List Write) (marks marks' : List Bool) (a b : Seen) (r : Result A MendFault)
     → a.held ≡ None → DoesWrites P f marks marks' a b r → DoesWrites P g marks marks' a b r
-does_untold P f g marks marks' a b r none h = record {
-  ranges = h.ranges;
-  only = h.only;
-  own = no_own a.held none;
-  lie = h.lie;
-  marked = h.marked;
-  held = untold a.held b.held none h.held;
-  account = h.account;
-}
+does_untold P f g marks marks' a b r none h = retold P h (no_own a.held none) (untold a.held b.held none h.held) h.account
   where
     no_own : (o : Option Images) → o ≡ None → IfSome o (λ images. AreAmong h.ranges (ranges_of (g images)))
     no_own None e = tt

@@ -1,6 +1,7 @@
 use Rattle.std.proofs.Common.{◌≢◌, ◌<◌, take, sym, ap, ◌∙◌, subst, arith}
+use Rattle.btr_scrub_row.proofs.Common.{size_of, value_of}
 use Rattle.btr_parity.specs.Solutions.{IsTheOne, Weighs, WeighsWith}
-use Rattle.btr_read.specs.Candidates.{size_of, slice_count, value_of}
+use Rattle.btr_read.specs.Candidates.{slice_count}
 use Rattle.btr_read.proofs.Rebuilt.{by_p, by_q, by_both}
 use Rattle.btr_scrub_row.proofs.accepting.compute.Goals as goal
 

@@ -1,10 +1,5 @@
-use Rattle.std.specs.List.{flat_map}
-use Rattle.btr_read.proofs.Trials.{telling}
-use Rattle.btr_scrub_row.specs.Wanted.{mending_writes}
-use Rattle.btr_scrub_row.specs.Mending.{IsOfRow}
-use Rattle.btr_scrub_row.specs.Preparing.{IsPrepared}
+use Rattle.btr_scrub_row.proofs.Common.{IsOfRow, does_nothing, flat_map, mending_writes, telling}
 use Rattle.btr_scrub_row.proofs.Applied.{no_writes, tells_blocks}
-use Rattle.btr_scrub_copies.proofs.Doing.{does_nothing}
 use Rattle.btr_scrub_row.proofs.Wrote.{does_told}
 use Rattle.btr_scrub_row.proofs.applying.write_rebuilt.Goals as goal
 
@@ -12,9 +7,8 @@ pub returns-then-judged-eq0-clause-writes : goal.returns-then-judged-eq0-clause-
 returns-then-judged-eq0-clause-writes g c told row wanted tells =
     let layout = c.args.store.now.layout in
     does_told (λ images. flat_map (mending_writes images row.failing) row.blocks) told
-    (λ images is. no_writes images layout row c.args.judged.now c.args.buffer.now
-    (telling told (λ images. IsPrepared images layout row c.args.judged.now c.args.buffer.now) tells.known images is) c.if-judged-eq0.true)
-    tells.untold (does_nothing (IsOfRow layout row) c.args.marks.now (g.R.Rack.seen c.args.rack.now))
+    (λ images is. no_writes images layout row c.args.judged.now c.args.buffer.now (telling _ _ tells.known images is) c.if-judged-eq0.true)
+    tells.untold (does_nothing (IsOfRow layout row) _ _)
 
 pub returns-clause-writes : goal.returns-clause-writes
 returns-clause-writes g c told row wanted tells =

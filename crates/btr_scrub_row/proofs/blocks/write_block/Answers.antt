@@ -1,9 +1,5 @@
 use Rattle.std.proofs.Common.{◌≡◌, length, take, arith, rules, length-take}
-use Rattle.btr_scrub_row.specs.Wanted.{mending_writes}
-use Rattle.btr_read.proofs.Trials.{telling}
-use Rattle.btr_scrub_row.specs.Mending.{IsOfRow}
-use Rattle.btr_scrub_row.specs.Memory.{HoldsRow}
-use Rattle.btr_scrub_copies.proofs.Doing.{does_nothing}
+use Rattle.btr_scrub_row.proofs.Common.{IsOfRow, does_nothing, mending_writes, telling}
 use Rattle.btr_scrub_row.proofs.BlockWrites.{in_the_row, written, writes_it}
 use Rattle.btr_scrub_row.proofs.Held.{held, is_block, lies_at, piece_is}
 use Rattle.btr_scrub_row.proofs.Settled.{writes_not}
@@ -21,13 +17,11 @@ write_front-requires-clause-can g c =
 
 pub returns-then-settled-clause-writes : goal.returns-then-settled-clause-writes
 returns-then-settled-clause-writes g c told row t of knows tells e =
-    let layout = c.args.view.now.store.now.layout in
     let b = is_block c.requires.within of e c.piece_of-piece.ensures in
     does_told (λ images. mending_writes images row.failing t) told
     (λ images is. writes_not images row t c.settle-settled.new.block c.settle-settled.result (c.settle-settled.ensures images row t e (lies_at b) knows
-    (held b images c.args.view.now.old.now (telling told (λ images. HoldsRow images layout row c.args.view.now.old.now) tells.known images is)))
-    (search rules))
-    tells.untold (does_nothing (IsOfRow layout row) c.args.marks.now (g.R.Rack.seen c.args.rack.now))
+    (held b images c.args.view.now.old.now (telling _ _ tells.known images is))) (search rules))
+    tells.untold (does_nothing (IsOfRow c.args.view.now.store.now.layout row) _ _)
 
 pub returns-clause-writes : goal.returns-clause-writes
 returns-clause-writes g c told row t of knows tells e =
@@ -43,6 +37,5 @@ returns-clause-writes g c told row t of knows tells e =
     (λ images is. writes_it b element there images block c.settle-settled.result
     (omega (arith, c.settle-settled.auto.block, c.requires.block, b.placed.inside))
     (c.settle-settled.ensures images row t e (lies_at b) knows
-    (held b images c.args.view.now.old.now (telling told (λ images. HoldsRow images layout row c.args.view.now.old.now) tells.known images is)))
-    (search rules))
+    (held b images c.args.view.now.old.now (telling _ _ tells.known images is))) (search rules))
     tells.untold (c.write_front.ensures.writes layout row (in_the_row b element there (length (take piece.len block)) long))

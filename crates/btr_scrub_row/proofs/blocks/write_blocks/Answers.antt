@@ -1,11 +1,5 @@
-use Rattle.std.proofs.Common.{Ok, refl, sym, ◌∙◌, subst, arith}
-use Rattle.std.specs.List.{flat_map}
-use Rattle.std.proofs.lemmas.List.{take_all}
-use Rattle.btr_scrub_row.specs.Wanted.{mending_writes}
-use Rattle.btr_scrub_copies.specs.Writes.{DoesWrites}
-use Rattle.btr_scrub_row.specs.Mending.{IsOfRow}
-use Rattle.btr_scrub_row.specs.Writing.{told_writes}
-use Rattle.btr_scrub_copies.proofs.Doing.{does_nothing, does_passed}
+use Rattle.std.proofs.Common.{refl, ◌∙◌, arith}
+use Rattle.btr_scrub_row.proofs.Common.{IsOfRow, does_nothing, does_passed, mending_writes, take_all}
 use Rattle.btr_scrub_row.proofs.Judges.{in_row, same_count, want_at}
 use Rattle.btr_scrub_row.proofs.Wrote.{can_still, flat_cut, flat_next, flat_told-none, tells_still}
 use Rattle.btr_scrub_row.proofs.blocks.write_blocks.Goals as goal
@@ -14,10 +8,8 @@ pub loop-want-init : goal.loop-want-init
 loop-want-init g c = record {
   slots = refl;
   done = λ told row of tells.
-      let a = g.R.Rack.seen c.args.rack.now in
       let Lies = IsOfRow c.args.view.now.store.now.layout row in
-      subst (λ ws. DoesWrites {A = Unit {0}} Lies (λ i. ws) c.args.marks.now c.args.marks.now a a (Ok tt))
-      (sym (flat_told-none (λ images. mending_writes images row.failing) told)) (does_nothing Lies c.args.marks.now a);
+      rw (flat_told-none (λ images. mending_writes images row.failing) told) (does_nothing Lies _ _);
 }
 
 pub write_block-requires-clause-can : goal.write_block-requires-clause-can
@@ -50,9 +42,5 @@ returns-in_err-write_block-clause-writes g c told row of tells =
 
 pub returns-clause-writes : goal.returns-clause-writes
 returns-clause-writes g c told row of tells =
-    let layout = c.args.view.now.store.now.layout in
-    let long = same_count layout c.args.view.now.wanted.wants.now row.blocks of.is.blocks in
-    subst (λ ts. DoesWrites {A = Unit {0}} (IsOfRow layout row) (λ i. told_writes (λ images. flat_map (mending_writes images row.failing) ts) told)
-    c.args.marks.now
-    c.loop-want.marks (g.R.Rack.seen c.args.rack.now) (g.R.Rack.seen c.loop-want.rack) (Ok tt))
-    (take_all c.loop-want.want-index row.blocks (omega (arith, long, c.loop-want-test.false))) (c.loop-want.invariant.done told row of tells)
+    let long = same_count c.args.view.now.store.now.layout c.args.view.now.wanted.wants.now row.blocks of.is.blocks in
+    rw (take_all c.loop-want.want-index row.blocks (omega (arith, long, c.loop-want-test.false))) at (c.loop-want.invariant.done told row of tells)

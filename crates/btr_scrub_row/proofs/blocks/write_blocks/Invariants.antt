@@ -1,11 +1,7 @@
 use Rattle.std.proofs.Common.{◌≡◌, take, Option, Ok}
-use Rattle.std.specs.List.{flat_map}
-use Rattle.btr_scrub_row.specs.Wanted.{mending_writes}
-use Rattle.btr_scrub_row.specs.Rows.{Row}
-use Rattle.btr_scrub_row.specs.Mending.{IsOfRow}
-use Rattle.btr_scrub_copies.specs.Writes.{DoesWrites, Images}
+use Rattle.btr_scrub_row.proofs.Common.{DoesWrites, Images, IsOfRow, Row, flat_map, mending_writes, told_writes}
 use Rattle.btr_scrub_row.specs.Memory.{IsWantedRow}
-use Rattle.btr_scrub_row.specs.Writing.{TellsHeldRow, told_writes}
+use Rattle.btr_scrub_row.specs.Writing.{TellsHeldRow}
 use Rattle.btr_scrub_row.proofs.blocks.write_blocks.Given as goal
 
 abbrev pub invariant-loop-want : goal.invariant-loop-want

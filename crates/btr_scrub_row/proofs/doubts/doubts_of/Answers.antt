@@ -1,10 +1,8 @@
 use Rattle.std.proofs.Common.{ℕ, ◌<◌, Bool, length, sym, ap, ◌∙◌, arith}
+use Rattle.btr_scrub_row.proofs.Common.{devid_at, flagged, is_behind, is_doubtful, parities, part_at, slice_count}
 use Rattle.std.proofs.lemmas.List.{length-set}
-use Rattle.btr_scrub_copies.specs.Fresh.{flagged, is_behind, is_doubtful}
-use Rattle.btr_scrub_row.specs.Rows.{parities, slice_count}
-use Rattle.btr_scrub_row.specs.Memory.{devid_at, part_at}
-use Rattle.btr_scrub_row.proofs.Doubting.{flag_more}
 use Rattle.btr_scrub_row.proofs.Shapes.{row_counted}
+use Rattle.btr_scrub_copies.proofs.Lists.{flag_more}
 use Rattle.btr_scrub_row.proofs.doubts.doubts_of.Goals as goal
 
 pub loop-number-preserved : goal.loop-number-preserved

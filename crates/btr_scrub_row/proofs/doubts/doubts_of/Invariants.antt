@@ -1,7 +1,5 @@
 use Rattle.std.proofs.Common.{◌≡◌, ℕ, ◌<◌, length}
-use Rattle.btr_scrub_copies.specs.Fresh.{flagged, is_behind, is_doubtful}
-use Rattle.btr_scrub_row.specs.Rows.{Row, slice_count}
-use Rattle.btr_scrub_row.specs.Memory.{IsStripeOf, devid_at, flag_of, part_at}
+use Rattle.btr_scrub_row.proofs.Common.{IsStripeOf, Row, devid_at, flag_of, flagged, is_behind, is_doubtful, part_at, slice_count}
 use Rattle.btr_scrub_row.proofs.doubts.doubts_of.Given as goal
 
 abbrev pub invariant-loop-number : goal.invariant-loop-number

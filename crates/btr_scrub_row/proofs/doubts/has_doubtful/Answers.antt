@@ -1,7 +1,5 @@
 use Rattle.std.proofs.Common.{sym, ◌∙◌, arith}
-use Rattle.std.proofs.lemmas.Option.{slice_get_within}
-use Rattle.btr_chunk.specs.declared.stripe.Stripe.{Stripe}
-use Rattle.btr_scrub_copies.specs.Fresh.{flagged, is_doubtful}
+use Rattle.btr_scrub_row.proofs.Common.{Stripe, flagged, is_doubtful, slice_get_within}
 use Rattle.btr_chunk.proofs.Searches.{list_any-false, list_any-true}
 use Rattle.btr_scrub_row.proofs.doubts.has_doubtful.Goals as goal
 

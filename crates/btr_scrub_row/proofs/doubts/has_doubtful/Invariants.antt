@@ -1,6 +1,5 @@
 use Rattle.std.proofs.Common.{◌≡◌, ℕ, ◌<◌, Some, false, slice_get}
-use Rattle.btr_chunk.specs.declared.stripe.Stripe.{Stripe}
-use Rattle.btr_scrub_copies.specs.Fresh.{flagged, is_doubtful}
+use Rattle.btr_scrub_row.proofs.Common.{Stripe, flagged, is_doubtful}
 use Rattle.btr_scrub_row.proofs.doubts.has_doubtful.Given as goal
 
 abbrev pub invariant-loop-i : goal.invariant-loop-i

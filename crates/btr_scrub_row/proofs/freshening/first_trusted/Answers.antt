@@ -1,14 +1,6 @@
 use Rattle.std.proofs.Common.{◌≡◌, ℕ, ◌<◌, Bool, true, false, not, length, sym, ap, ◌∙◌, arith, rules}
-use Rattle.std.specs.List.{filter}
-use Rattle.std.proofs.lemmas.List.{take_all}
-use Rattle.btr_read.specs.Candidates.{Target, ways}
-use Rattle.btr_read.specs.Layout.{Layout}
-use Rattle.btr_read.specs.declared.candidate.Candidate.{Candidate}
-use Rattle.btr_scrub_copies.specs.Fresh.{is_trusted}
-use Rattle.btr_scrub_row.specs.Memory.{IsWayCount, IsWayOf, KnowsDoubts, LiesAt, reads_flagged}
-use Rattle.btr_scrub_row.specs.Rows.{Row}
-use Rattle.btr_scrub_row.specs.declared.doubts.Doubts.{Doubts}
-use Rattle.btr_scrub_row.specs.declared.slice_piece.SlicePiece.{SlicePiece}
+use Rattle.btr_scrub_row.proofs.Common.{Candidate, Doubts, KnowsDoubts, Layout, LiesAt, Row, SlicePiece, Target, filter, is_trusted, take_all, ways}
+use Rattle.btr_scrub_row.specs.Memory.{IsWayCount, IsWayOf, reads_flagged}
 use Rattle.btr_scrub_row.proofs.Accepted.{in_count, length-ways, parts_are, q_is, way_is, way_stands}
 use Rattle.btr_scrub_row.proofs.Doubting.{first_of_ways, no_way, none_more, reads_at, trusted_where}
 use Rattle.btr_scrub_row.proofs.freshening.first_trusted.Goals as goal

@@ -1,10 +1,5 @@
 use Rattle.std.proofs.Common.{◌≡◌, [], take, Ok}
-use Rattle.std.specs.List.{filter}
-use Rattle.btr_read.specs.Candidates.{Target, ways}
-use Rattle.btr_read.specs.Fate.{sought}
-use Rattle.btr_scrub_copies.specs.Fresh.{is_trusted}
-use Rattle.btr_scrub_row.specs.Rows.{Row}
-use Rattle.btr_scrub_row.specs.Memory.{KnowsDoubts, LiesAt}
+use Rattle.btr_scrub_row.proofs.Common.{KnowsDoubts, LiesAt, Row, Target, filter, is_trusted, sought, ways}
 use Rattle.btr_scrub_row.proofs.freshening.first_trusted.Given as goal
 
 abbrev pub invariant-loop-k : goal.invariant-loop-k

@@ -1,9 +1,6 @@
 use Rattle.std.proofs.Common.{◌≡◌, ◌+◌, ◌-◌, cond, true, take, slice_range, Some, None, sym, ap, ◌∙◌, arith, rules}
-use Rattle.std.specs.Str.{bytes_eq}
-use Rattle.btr_chunk.specs.declared.place.Part.TheVariants.{Slice}
-use Rattle.btr_read.specs.Candidates.{size_of}
-use Rattle.btr_scrub_copies.specs.Fresh.{is_on_behind}
-use Rattle.btr_scrub_row.specs.Memory.{piece_at, piece_in}
+use Rattle.btr_scrub_row.proofs.Common.{Slice, bytes_eq, is_on_behind, piece_in, size_of}
+use Rattle.btr_scrub_row.specs.Memory.{piece_at}
 use Rattle.btr_scrub_row.proofs.Doubting.{own_behind}
 use Rattle.btr_scrub_row.proofs.Settled.{renewed_as}
 use Rattle.btr_scrub_row.proofs.freshening.is_stale.Goals as goal

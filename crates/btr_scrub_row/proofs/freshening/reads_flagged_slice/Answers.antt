@@ -1,9 +1,7 @@
 use Rattle.std.proofs.Common.{◌≡◌, ◌&&◌, ℕ, ◌<◌, Bool, true, sym, ap, ◌∙◌, arith}
-use Rattle.std.specs.List.{range_with_len}
+use Rattle.btr_scrub_row.proofs.Common.{flag_of, length-range_with_len, range_with_len, reads_slice}
 use Rattle.std.proofs.lemmas.List.Folds.{list_any_at, list_any_none}
-use Rattle.std.proofs.lemmas.List.FromFn.{get_or-range_with_len, length-range_with_len}
-use Rattle.btr_read.specs.Candidates.{reads_slice}
-use Rattle.btr_scrub_row.specs.Memory.{flag_of}
+use Rattle.std.proofs.lemmas.List.FromFn.{get_or-range_with_len}
 use Rattle.btr_scrub_row.proofs.freshening.reads_flagged_slice.Goals as goal
 
 pub returns-then-flag_of : goal.returns-then-flag_of

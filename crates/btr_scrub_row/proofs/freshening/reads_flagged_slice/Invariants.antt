@@ -1,6 +1,5 @@
 use Rattle.std.proofs.Common.{◌≡◌, ℕ, ◌<◌, ◌&&◌, false}
-use Rattle.btr_read.specs.Candidates.{reads_slice}
-use Rattle.btr_scrub_row.specs.Memory.{flag_of}
+use Rattle.btr_scrub_row.proofs.Common.{flag_of, reads_slice}
 use Rattle.btr_scrub_row.proofs.freshening.reads_flagged_slice.Given as goal
 
 abbrev pub invariant-loop-slice : goal.invariant-loop-slice

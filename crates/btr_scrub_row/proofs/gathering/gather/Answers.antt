@@ -1,9 +1,8 @@
 use Rattle.std.proofs.Common.{◌+◌, ◌*◌, take, sym, ap, ◌∙◌, subst}
-use Rattle.btr_parity.proofs.Solving.{bytes_of}
+use Rattle.btr_scrub_row.proofs.Common.{GatheredSoFar, bytes_of}
 use Rattle.btr_scrub_row.proofs.Gathered.{left_begun, left_more, left_same}
-use Rattle.btr_read.proofs.Sums.{GatheredSoFar}
-use Rattle.btr_scrub_row.proofs.gathering.gather.Goals as goal
 use Rattle.btr_scrub_row.proofs.gathering.gather.Goals.{then-reads, else-reads}
+use Rattle.btr_scrub_row.proofs.gathering.gather.Goals as goal
 
 pub loop-slice-init : goal.loop-slice-init
 loop-slice-init c = λ images t h.

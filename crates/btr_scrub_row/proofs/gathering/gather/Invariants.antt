@@ -1,8 +1,5 @@
 use Rattle.std.proofs.Common.{take}
-use Rattle.btr_read.specs.Candidates.{Target}
-use Rattle.btr_scrub_copies.specs.Writes.{Images}
-use Rattle.btr_scrub_row.specs.Memory.{IsInMemory}
-use Rattle.btr_read.proofs.Sums.{GatheredSoFar}
+use Rattle.btr_scrub_row.proofs.Common.{GatheredSoFar, Images, IsInMemory, Target}
 use Rattle.btr_scrub_row.proofs.gathering.gather.Given as goal
 
 abbrev pub invariant-loop-slice : goal.invariant-loop-slice

@@ -1,11 +1,6 @@
-use Rattle.std.proofs.Common.{◌*◌, ◌<◌, ◌≤◌, ◌&&◌, not, [], ◌∷◌, ◌++◌, length, take, replicate, false, refl}
-use Rattle.std.proofs.Common.{sym, ap, ◌∙◌, subst, arith}
-use Rattle.std.proofs.lemmas.List.{take_all, take_more}
-use Rattle.btr_chunk.specs.Chunk.{data_count}
+use Rattle.std.proofs.Common.{◌*◌, ◌<◌, ◌≤◌, ◌&&◌, not, length, take, replicate, false, refl, ap, subst, arith}
+use Rattle.btr_scrub_row.proofs.Common.{IsOn, data_count, slice_count, take_all, take_more}
 use Rattle.btr_scrub_copies.proofs.Flags.{cond_few}
-use Rattle.btr_scrub_row.specs.Rows.{slice_count}
-use Rattle.btr_scrub_row.specs.Mending.{IsOn}
-use Rattle.btr_scrub_row.specs.Judging.{AreJudged}
 use Rattle.btr_scrub_row.proofs.Judges.{in_row, judged_more, judged_none, none_of_sixteen, same_count, want_at}
 use Rattle.btr_scrub_row.proofs.Shapes.{row_counted}
 use Rattle.btr_scrub_row.proofs.judged.judge.Goals as goal
@@ -51,17 +46,12 @@ loop-want-preserved c =
           let count = row_counted row wanted.of.is.parity wanted.of.keeps_rule in
           let below : t.at.index < slice_count row = omega (arith, fits.index, ap (λ c. data_count c.profile (length c.stripes)) on.chunk) in
           let room : slice_count row * 65536 ≤ length c.loop-want.new = omega (arith, c.requires.new_room row wanted.of, count.whole, c.loop-want.auto.new) in
-          let more = judged_more images layout row (take i row.blocks) t c.loop-want.new c.judge_block-verdict.new.new c.loop-want.judged
-          c.counted-judged.result verdict
-          below fits.inside room (c.loop-want.invariant.judged images row wanted holds) fits
-          (record { blocks = e.blocks; bad = e.bad; rebuilt = e.rebuilt; lost = e.lost; met = e.met; broken = e.broken }) fits.long in
-          subst (λ ts. AreJudged images layout row ts c.judge_block-verdict.new.new c.counted-judged.result)
-          (sym (take_more row.blocks i t w.below ∙ ap (λ x. take i row.blocks ++ x ∷ []) (w.at t))) more;
+          rw (take_more row.blocks i t w.below, w.at t) (judged_more images layout row (take i row.blocks) t _ _ _ _ verdict below fits.inside room
+          (c.loop-want.invariant.judged images row wanted holds) fits
+          (record { blocks = e.blocks; bad = e.bad; rebuilt = e.rebuilt; lost = e.lost; met = e.met; broken = e.broken }) fits.long);
     }
 
 pub returns : goal.returns
 returns c = λ images row wanted holds.
     let long = same_count c.args.view.now.store.now.layout c.args.view.now.wanted.wants.now row.blocks wanted.is.blocks in
-    subst (λ ts. AreJudged images c.args.view.now.store.now.layout row ts c.loop-want.new c.loop-want.judged)
-    (take_all c.loop-want.want-index row.blocks (omega (arith, long, c.loop-want-test.false)))
-    (c.loop-want.invariant.judged images row wanted holds)
+    rw (take_all c.loop-want.want-index row.blocks (omega (arith, long, c.loop-want-test.false))) at (c.loop-want.invariant.judged images row wanted holds)

@@ -1,8 +1,6 @@
 use Rattle.std.proofs.Common.{◌≤◌, take}
-use Rattle.btr_scrub_copies.specs.Writes.{Images}
-use Rattle.btr_scrub_row.specs.Rows.{Row}
-use Rattle.btr_scrub_row.specs.Memory.{HoldsRow, IsWantedRow}
-use Rattle.btr_scrub_row.specs.Judging.{AreJudged}
+use Rattle.btr_scrub_row.proofs.Common.{AreJudged, HoldsRow, Images, Row}
+use Rattle.btr_scrub_row.specs.Memory.{IsWantedRow}
 use Rattle.btr_scrub_row.proofs.judged.judge.Given as goal
 
 abbrev pub invariant-loop-want : goal.invariant-loop-want

@@ -1,7 +1,7 @@
 use Rattle.std.proofs.Common.{◌||◌, false, get_or, ap, ◌∙◌, arith}
+use Rattle.btr_scrub_row.proofs.Common.{meets_piece}
 use Rattle.std.proofs.lemmas.List.{get_or-set_other, length-set}
-use Rattle.btr_scrub_row.specs.Judging.{meets_piece}
-use Rattle.btr_scrub_row.proofs.Doubting.{flag_more}
+use Rattle.btr_scrub_copies.proofs.Lists.{flag_more}
 use Rattle.btr_scrub_row.proofs.judged.marked.Goals as goal
 
 pub loop-column-preserved : goal.loop-column-preserved

@@ -1,5 +1,5 @@
 use Rattle.std.proofs.Common.{◌≡◌, ℕ, ◌<◌, ◌≤◌, ◌||◌, false, get_or, length}
-use Rattle.btr_scrub_row.specs.Judging.{meets_piece}
+use Rattle.btr_scrub_row.proofs.Common.{meets_piece}
 use Rattle.btr_scrub_row.proofs.judged.marked.Given as goal
 
 abbrev pub invariant-loop-column : goal.invariant-loop-column

@@ -1,13 +1,6 @@
-use Rattle.std.proofs.Common.{◌≡◌, ◌+◌, ◌*◌, ◌&&◌, ◌||◌, not, cond, take, Some, None, List, ℕ, Bool, true, false, IsNone, refl, sym, ap, ◌∙◌}
-use Rattle.std.proofs.Common.{subst, arith}
-use Rattle.std.specs.Option.{option_map_or}
-use Rattle.btr_chunk.specs.declared.place.Part.TheVariants.{Slice}
-use Rattle.btr_rack.specs.Rack.{pasted}
-use Rattle.btr_read.specs.Candidates.{size_of}
-use Rattle.btr_read.specs.Fate.{is_plain}
-use Rattle.btr_read.proofs.Fates.{sought_of}
+use Rattle.std.proofs.Common.{◌≡◌, ◌+◌, ◌*◌, ◌&&◌, ◌||◌, not, cond, take, Some, None, List, ℕ, Bool, IsNone, refl, sym, ap, ◌∙◌, subst, arith}
+use Rattle.btr_scrub_row.proofs.Common.{Slice, is_checked, is_plain, option_map_or, pasted, size_of, sought_of}
 use Rattle.btr_scrub_row.specs.Memory.{IsPiece}
-use Rattle.btr_scrub_row.specs.Wanted.{is_checked}
 use Rattle.btr_scrub_row.proofs.Held.{held, is_block, lies_at, piece_is}
 use Rattle.btr_scrub_row.proofs.Settled.{length-writes, length-wrong, long_is, lost_is, sure_is}
 use Rattle.btr_scrub_row.proofs.BlockWrites.{own_range}
@@ -20,8 +13,7 @@ settle-settled-requires-clause-piece c =
 -- what is given is pasted
 pasted_as : (bytes block : List ℕ) (at : ℕ) (n : ℕ) (b : Bool) → cond b (pasted bytes at (take n block)) bytes
     ≡ option_map_or (pasted bytes at) (cond b (Some (take n block)) None) bytes
-pasted_as bytes block at n true = refl
-pasted_as bytes block at n false = refl
+pasted_as bytes block at n b = grind arith
 
 pub returns-clause-verdict : goal.returns-clause-verdict
 returns-clause-verdict c = λ images row t of knows holds e.

@@ -1,23 +1,19 @@
-use Rattle.std.proofs.Common.{◌≡◌, length, Ok, Err, refl, sym, ◌∙◌, subst, arith}
-use Rattle.btr_read.specs.Store.{Blocks}
+use Rattle.std.proofs.Common.{length, refl, sym, ◌∙◌, arith, ◌≡◌, subst}
+use Rattle.btr_scrub_row.proofs.Common.{IsOfRow, Judged, false≢true, parity_count}
 use Rattle.btr_read.proofs.ReadsOn.{same_held, same_slots}
 use Rattle.btr_read.proofs.Serving.{serves_as, serving}
 use Rattle.btr_scrub_copies.specs.Writes.{AccountsMend}
 use Rattle.btr_scrub_copies.proofs.Doing.{account_halt, passed}
 use Rattle.btr_scrub_copies.proofs.Outcomes.{serves_forgot}
-use Rattle.std.proofs.lemmas.Bool.{false≢true}
-use Rattle.btr_scrub_row.specs.Memory.{IsStripeOf, IsWanted}
-use Rattle.btr_scrub_row.specs.Mending.{IsOfRow, parity_count}
-use Rattle.btr_scrub_row.specs.declared.judged.Judged.{Judged}
 use Rattle.btr_scrub_row.specs.declared.mended.MendedRow.{MendedRow}
-use Rattle.btr_scrub_row.specs.Preparing.{StaysPrepared, WherePrepared, WritesInTurn}
 use Rattle.btr_scrub_row.proofs.Outcomes.{is_read, mends_cut, mends_failed, mends_read, mends_wrote, room_all, tells_prepared}
-use Rattle.btr_scrub_row.specs.Writing.{CanWrite}
 use Rattle.btr_scrub_row.proofs.Wrote.{can_still}
+use Rattle.btr_read.specs.Store.{Blocks}
+use Rattle.btr_scrub_row.specs.Preparing.{WherePrepared}
 use Rattle.btr_scrub_row.proofs.mending.mend_row.Goals as goal
 
 pub prepare-requires-clause-open : goal.prepare-requires-clause-open
-prepare-requires-clause-open g c = let was = serving (g.R.Rack.seen c.args.rack.now) c.args.store.now c.requires.serves in was.are_open
+prepare-requires-clause-open g c = let was = serving _ _ c.requires.serves in was.are_open
 
 pub returns-in_err-judged-clause-serves : goal.returns-in_err-judged-clause-serves
 returns-in_err-judged-clause-serves g c = serves_as (g.R.Rack.seen c.args.rack.now) (g.R.Rack.seen c.prepare.new.rack) c.args.store.now c.args.store.now
@@ -39,35 +35,31 @@ count_parities-requires-clause-room g c row of =
 
 pub returns-then-not-work-clause-mends : goal.returns-then-not-work-clause-mends
 returns-then-not-work-clause-mends g c row is fails =
-    let wanted = c.wanted_row-wanted.ensures.is row is fails in
-    let read = is_read c.prepare.ensures.reads (c.in_ok-judged.ensures.account row (c.wanted_row-wanted.ensures.stripe row is))
-    (λ images e. c.in_ok-judged.ensures.prepared images row e wanted) in
-    mends_read read c.if-not-work.true c.count_parities.result
-    (λ images e. c.count_parities.ensures images row (c.wanted_row-wanted.ensures.stripe row is) (read.prepared images e))
+    let of = c.wanted_row-wanted.ensures.stripe row is in
+    let read = is_read c.prepare.ensures.reads (c.in_ok-judged.ensures.account row of)
+    (λ images e. c.in_ok-judged.ensures.prepared images row e (c.wanted_row-wanted.ensures.is row is fails)) in
+    mends_read read c.if-not-work.true c.count_parities.result (λ images e. c.count_parities.ensures images row of (read.prepared images e))
 
 pub write_row-requires-clause-can : goal.write_row-requires-clause-can
 write_row-requires-clause-can g c =
-    let was = serving (g.R.Rack.seen c.args.rack.now) c.args.store.now c.requires.serves in
-    subst (λ (s : Blocks). CanWrite s.layout (g.R.Rack.seen c.prepare.new.rack) c.args.marks.now) (sym c.forget_kept.ensures)
-    (can_still {a = g.R.Rack.seen c.args.rack.now} (same_slots c.prepare.ensures.reads) refl
+    let was = serving _ _ c.requires.serves in
+    rw c.forget_kept.ensures (can_still {a = g.R.Rack.seen c.args.rack.now} (same_slots c.prepare.ensures.reads) refl
     (record { are_open = was.are_open; writable = c.requires.writable c.if-not-work.false; slots = omega (arith, c.requires.slots) }))
 
 pub write_row-requires-clause-wanted : goal.write_row-requires-clause-wanted
-write_row-requires-clause-wanted g c =
-    subst (λ (s : Blocks). IsWanted s.layout c.wanted_row-wanted.result) (sym c.forget_kept.ensures) c.wanted_row-wanted.ensures.there
+write_row-requires-clause-wanted g c = rw c.forget_kept.ensures c.wanted_row-wanted.ensures.there
 
 pub write_row-requires-clause-room : goal.write_row-requires-clause-room
 write_row-requires-clause-room g c row of =
     let r = c.requires.row in
-    c.prepare.ensures.room (length row.chunk.stripes) (room_all (c.wanted_row-wanted.ensures.stripe r.row r.is)
-    (subst (λ (s : Blocks). IsStripeOf s.layout c.wanted_row-wanted.result.stripe row) c.forget_kept.ensures of) (c.requires.room r.row r.is))
+    c.prepare.ensures.room (length row.chunk.stripes)
+    (room_all (c.wanted_row-wanted.ensures.stripe r.row r.is) (rw c.forget_kept.ensures at of) (c.requires.room r.row r.is))
 
 pub count_parities-requires-2-clause-room : goal.count_parities-requires-2-clause-room
 count_parities-requires-2-clause-room g c row of =
     let r = c.requires.row in
-    c.write_row.ensures.room (length row.chunk.stripes)
-    (c.prepare.ensures.room (length row.chunk.stripes) (room_all (c.wanted_row-wanted.ensures.stripe r.row r.is)
-    (subst (λ (s : Blocks). IsStripeOf s.layout c.wanted_row-wanted.result.stripe row) c.forget_kept.ensures of) (c.requires.room r.row r.is)))
+    c.write_row.ensures.room (length row.chunk.stripes) (c.prepare.ensures.room (length row.chunk.stripes)
+    (room_all (c.wanted_row-wanted.ensures.stripe r.row r.is) (rw c.forget_kept.ensures at of) (c.requires.room r.row r.is)))
 
 pub returns-clause-serves : goal.returns-clause-serves
 returns-clause-serves g c =
@@ -88,36 +80,29 @@ returns-in_err-write_row-clause-room g c = λ n room. c.write_row.ensures.room n
 pub returns-clause-mends : goal.returns-clause-mends
 returns-clause-mends g c row is fails =
     let wanted = c.wanted_row-wanted.ensures.is row is fails in
-    let later = c.write_row.new.buffer in
-    let read = is_read c.prepare.ensures.reads (c.in_ok-judged.ensures.account row (c.wanted_row-wanted.ensures.stripe row is))
-    (λ images e. c.in_ok-judged.ensures.prepared images row e wanted) in
-    let stays = subst (λ (s : Blocks). StaysPrepared s.layout c.in_ok-judged.judged c.prepare.new.buffer later) c.forget_kept.ensures
-    c.in_ok-write_row.ensures.prepared in
-    let count = subst (λ (s : Blocks). WherePrepared s.layout c.wanted_row-wanted.result.stripe c.in_ok-judged.judged later
+    let of = c.wanted_row-wanted.ensures.stripe row is in
+    let read = is_read c.prepare.ensures.reads (c.in_ok-judged.ensures.account row of) (λ images e. c.in_ok-judged.ensures.prepared images row e wanted) in
+    let stays = rw c.forget_kept.ensures at c.in_ok-write_row.ensures.prepared in
+    let count = subst (λ (s : Blocks). WherePrepared s.layout c.wanted_row-wanted.result.stripe c.in_ok-judged.judged c.write_row.new.buffer
     (λ images row. c.count_parities-2.result ≡ parity_count images s.layout row)) c.forget_kept.ensures c.count_parities-2.ensures in
+    let writes = rw c.forget_kept.ensures at c.in_ok-write_row.ensures.writes in
     mends_wrote read c.if-not-work.false c.count_parities-2.result
-    (λ images e. count images row (c.wanted_row-wanted.ensures.stripe row is) (stays images row (read.prepared images e)))
-    (subst (λ (s : Blocks). WritesInTurn {A = Unit {0}} s.layout c.wanted_row-wanted.result c.in_ok-judged.judged c.prepare.new.buffer c.args.marks.now
-    c.write_row.new.marks (g.R.Rack.seen c.prepare.new.rack) (g.R.Rack.seen c.write_row.new.rack) (Ok tt))
-    c.forget_kept.ensures c.in_ok-write_row.ensures.writes (g.R.Rack.seen c.args.rack.now).held row wanted (tells_prepared read))
+    (λ images e. count images row of (stays images row (read.prepared images e))) (writes _ row wanted (tells_prepared read))
 
 pub returns-in_err-write_row-clause-mends : goal.returns-in_err-write_row-clause-mends
 returns-in_err-write_row-clause-mends g c row is fails =
     let wanted = c.wanted_row-wanted.ensures.is row is fails in
-    let fault = c.in_err-write_row.field-0.0 in
     let read = is_read c.prepare.ensures.reads (c.in_ok-judged.ensures.account row (c.wanted_row-wanted.ensures.stripe row is))
     (λ images e. c.in_ok-judged.ensures.prepared images row e wanted) in
-    mends_cut read c.if-not-work.false fault c.from_residual-in_err-write_row.ensures.1
-    (subst (λ (s : Blocks). WritesInTurn {A = Unit {0}} s.layout c.wanted_row-wanted.result c.in_ok-judged.judged c.prepare.new.buffer c.args.marks.now
-    c.write_row.new.marks (g.R.Rack.seen c.prepare.new.rack) (g.R.Rack.seen c.write_row.new.rack) (Err fault))
-    c.forget_kept.ensures c.in_err-write_row.ensures.writes (g.R.Rack.seen c.args.rack.now).held row wanted (tells_prepared read))
+    let writes = rw c.forget_kept.ensures at c.in_err-write_row.ensures.writes in
+    mends_cut read c.if-not-work.false c.in_err-write_row.field-0.0 c.from_residual-in_err-write_row.ensures.1
+    (writes _ row wanted (tells_prepared read))
 
 pub returns-in_err-judged-clause-account : goal.returns-in_err-judged-clause-account
 returns-in_err-judged-clause-account g c unwritten row is =
-    passed (λ r. AccountsMend (IsOfRow c.args.store.now.layout row) (g.R.Rack.seen c.args.rack.now) (g.R.Rack.seen c.prepare.new.rack) r)
-    c.from_residual.result c.in_err-judged.field-0.0 c.from_residual.ensures.1
-    (account_halt Judged MendedRow (IsOfRow c.args.store.now.layout row) (g.R.Rack.seen c.args.rack.now) (g.R.Rack.seen c.prepare.new.rack)
-    c.in_err-judged.field-0.0 (c.in_err-judged.ensures.account row (c.wanted_row-wanted.ensures.stripe row is)))
+    let P = IsOfRow c.args.store.now.layout row in
+    passed (λ r. AccountsMend P (g.R.Rack.seen c.args.rack.now) (g.R.Rack.seen c.prepare.new.rack) r) _ _ c.from_residual.ensures.1
+    (account_halt Judged MendedRow P _ _ c.in_err-judged.field-0.0 (c.in_err-judged.ensures.account row (c.wanted_row-wanted.ensures.stripe row is)))
 
 pub returns-then-not-work-clause-account : goal.returns-then-not-work-clause-account
 returns-then-not-work-clause-account g c unwritten row is = c.in_ok-judged.ensures.account row (c.wanted_row-wanted.ensures.stripe row is)

@@ -1,10 +1,6 @@
 use Rattle.std.proofs.Common.{◌+◌, ◌*◌, map, slice_range, sym, ap, ◌∙◌, arith}
-use Rattle.std.specs.List.{range_with_len}
+use Rattle.btr_scrub_row.proofs.Common.{IsSlice, bytes_of, element_in, parity_by_folding, parity_p, plus, range_with_len}
 use Rattle.std.proofs.lemmas.List.FromFn.{map-range_with_len_more}
-use Rattle.btr_parity.specs.Slices.{IsSlice, parity_p, plus}
-use Rattle.btr_parity.proofs.Folding.{parity_by_folding}
-use Rattle.btr_parity.proofs.Solving.{bytes_of}
-use Rattle.btr_scrub_row.specs.Memory.{element_in}
 use Rattle.btr_scrub_row.proofs.Folded.{p_of_one}
 use Rattle.btr_scrub_row.proofs.Gathered.{cut_slice}
 use Rattle.btr_scrub_row.proofs.parities.make_p.Goals as goal

@@ -1,7 +1,5 @@
 use Rattle.std.proofs.Common.{◌≡◌, map, take}
-use Rattle.std.specs.List.{range_with_len}
-use Rattle.btr_parity.specs.Slices.{parity_p}
-use Rattle.btr_scrub_row.specs.Memory.{element_in}
+use Rattle.btr_scrub_row.proofs.Common.{element_in, parity_p, range_with_len}
 use Rattle.btr_scrub_row.proofs.parities.make_p.Given as goal
 
 abbrev pub invariant-loop-slice : goal.invariant-loop-slice

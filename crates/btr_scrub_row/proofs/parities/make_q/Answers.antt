@@ -1,10 +1,8 @@
 use Rattle.std.proofs.Common.{◌≡◌, ℕ, suc, ◌+◌, ◌-◌, ◌*◌, ◌<◌, ◌≤◌, ◌∷◌, List, length, map, refl, sym, ap, ◌∙◌, subst, arith}
-use Rattle.std.specs.List.{range_with_len, All}
+use Rattle.btr_scrub_row.proofs.Common.{IsSlice, bytes_of, element_in, parity_by_folding, parity_q, plus, range_with_len}
+use Rattle.std.specs.List.{All}
 use Rattle.std.proofs.lemmas.List.FromFn.{get_or-map-range_with_len, length-map-range_with_len}
-use Rattle.btr_parity.specs.Slices.{IsSlice, parity_q, plus, scaled}
-use Rattle.btr_parity.proofs.Folding.{parity_by_folding}
-use Rattle.btr_parity.proofs.Solving.{bytes_of}
-use Rattle.btr_scrub_row.specs.Memory.{element_in}
+use Rattle.btr_parity.specs.Slices.{scaled}
 use Rattle.btr_scrub_row.proofs.Folded.{q_of_one}
 use Rattle.btr_scrub_row.proofs.Gathered.{cut_slice}
 use Rattle.btr_scrub_row.proofs.parities.make_q.Goals as goal

@@ -1,7 +1,5 @@
 use Rattle.std.proofs.Common.{◌≡◌, ◌-◌, map, take}
-use Rattle.std.specs.List.{range_with_len}
-use Rattle.btr_parity.specs.Slices.{parity_q}
-use Rattle.btr_scrub_row.specs.Memory.{element_in}
+use Rattle.btr_scrub_row.proofs.Common.{element_in, parity_q, range_with_len}
 use Rattle.btr_scrub_row.proofs.parities.make_q.Given as goal
 
 abbrev pub invariant-loop-done : goal.invariant-loop-done

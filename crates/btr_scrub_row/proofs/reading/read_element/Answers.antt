@@ -1,7 +1,6 @@
 use Rattle.std.proofs.Common.{◌≡◌, ◌≢◌, ℕ, ◌+◌, ◌*◌, ◌-◌, ◌≤◌, List, length, take, drop, slice_range, sym, ap, ◌∙◌, arith, length-take, length-drop}
+use Rattle.btr_scrub_row.proofs.Common.{element_in, pasted}
 use borrow.Rule.Slice.PartMut.{put_mid}
-use Rattle.btr_rack.specs.Rack.{pasted}
-use Rattle.btr_scrub_row.specs.Memory.{element_in}
 use Rattle.btr_scrub_row.proofs.Elements.{is_at, its_element, lies, open_at}
 use Rattle.btr_scrub_row.proofs.Pasted.{element_other, put_is, range_pasted}
 use Rattle.btr_scrub_row.proofs.reading.read_element.Goals as goal

@@ -1,7 +1,7 @@
 use Rattle.std.proofs.Common.{IfSome}
+use Rattle.btr_scrub_row.proofs.Common.{IsStripeOf, Row}
 use Rattle.btr_rack.specs.Rack.{NoneFailed, OnlyReads}
-use Rattle.btr_scrub_row.specs.Rows.{Row}
-use Rattle.btr_scrub_row.specs.Memory.{HoldsFirst, IsStripeOf}
+use Rattle.btr_scrub_row.specs.Memory.{HoldsFirst}
 use Rattle.btr_scrub_row.proofs.reading.read_row.Given as goal
 
 abbrev pub invariant-loop-number : goal.invariant-loop-number

@@ -1,11 +1,7 @@
 use Rattle.std.proofs.Common.{ℕ, ◌+◌, ◌&&◌, cond, [], ◌∷◌, ◌++◌, take, count_by, refl, sym, ap, ◌∙◌, arith}
-use Rattle.std.specs.List.{range_with_len}
-use Rattle.std.proofs.lemmas.List.{take_all, take_more}
-use Rattle.std.proofs.lemmas.List.FromFn.{length-range_with_len}
+use Rattle.btr_scrub_row.proofs.Common.{differs, is_decided, length-range_with_len, part_of, range_with_len, take_all, take_more}
 use Rattle.std.proofs.lemmas.List.Sums.{sum_by_push}
-use Rattle.btr_read.specs.Gathering.{part_of}
 use Rattle.btr_scrub_copies.proofs.Flags.{cond_few}
-use Rattle.btr_scrub_row.specs.Rows.{differs, is_decided}
 use Rattle.btr_scrub_row.proofs.Columns.{column_at, counted_all}
 use Rattle.btr_scrub_row.proofs.Parts.{parity_there}
 use Rattle.btr_scrub_row.proofs.sectors.count_wrong.Goals as goal

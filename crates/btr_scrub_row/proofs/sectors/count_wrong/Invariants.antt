@@ -1,8 +1,5 @@
 use Rattle.std.proofs.Common.{◌≡◌, ◌≤◌, ◌&&◌, take, count_by}
-use Rattle.std.specs.List.{range_with_len}
-use Rattle.btr_read.specs.Gathering.{part_of}
-use Rattle.btr_read.specs.Layout.{Layout}
-use Rattle.btr_scrub_row.specs.Rows.{differs, is_decided}
+use Rattle.btr_scrub_row.proofs.Common.{Layout, differs, is_decided, part_of, range_with_len}
 use Rattle.btr_scrub_row.specs.Preparing.{WherePrepared}
 use Rattle.btr_scrub_row.proofs.sectors.count_wrong.Given as goal
 

@@ -1,7 +1,5 @@
 use Rattle.std.proofs.Common.{◌≡◌, ◌+◌, ◌*◌, ◌&&◌, Bool, true, false, not, get_or, take, refl, sym, ap, ◌∙◌}
-use Rattle.btr_read.specs.Gathering.{part_of}
-use Rattle.btr_scrub_row.specs.Rows.{differs, is_decided, slice_count}
-use Rattle.btr_scrub_row.specs.Memory.{element_in, element_of}
+use Rattle.btr_scrub_row.proofs.Common.{differs, element_in, element_of, is_decided, part_of, slice_count}
 use Rattle.btr_scrub_row.proofs.Applied.{knows_of}
 use Rattle.btr_scrub_row.proofs.Columns.{differs_is}
 use Rattle.btr_scrub_row.proofs.sectors.is_wrong.Goals as goal

@@ -1,24 +1,15 @@
-use Rattle.std.proofs.Common.{Ok, Err, refl, sym, ap, ◌∙◌, subst, arith}
-use Rattle.std.specs.List.{range_with_len}
-use Rattle.std.proofs.lemmas.List.{take_all}
-use Rattle.std.proofs.lemmas.List.FromFn.{length-range_with_len}
-use Rattle.btr_read.specs.Gathering.{part_of}
-use Rattle.btr_scrub_copies.specs.Writes.{DoesWrites}
-use Rattle.btr_scrub_row.specs.Mending.{IsOfRow}
-use Rattle.btr_scrub_row.specs.Writing.{column_writes}
-use Rattle.btr_scrub_copies.proofs.Doing.{does_nothing, does_passed}
+use Rattle.std.proofs.Common.{refl, ◌∙◌, arith}
+use Rattle.btr_scrub_row.proofs.Common.{IsOfRow, column_writes, does_nothing, does_passed, length-range_with_len, part_of, range_with_len, take_all}
 use Rattle.btr_scrub_row.proofs.Columns.{column_at, columns_told}
-use Rattle.btr_scrub_row.proofs.Wrote.{can_still, flat_cut, flat_next, flat_told, flat_told-none, tells_still}
+use Rattle.btr_scrub_row.proofs.Wrote.{can_still, flat_cut, flat_next, flat_told-none, tells_still}
 use Rattle.btr_scrub_row.proofs.sectors.write_parity.Goals as goal
 
 pub loop-column-init : goal.loop-column-init
 loop-column-init g c = record {
   slots = refl;
   done = λ told row of tells.
-      let a = g.R.Rack.seen c.args.rack.now in
-      let layout = c.args.store.now.layout in
-      subst (λ ws. DoesWrites {A = Unit {0}} (IsOfRow layout row) (λ i. ws) c.args.marks.now c.args.marks.now a a (Ok tt))
-      (sym (flat_told-none (column_writes layout row (part_of c.args.parity)) told)) (does_nothing (IsOfRow layout row) c.args.marks.now a);
+      rw (flat_told-none (column_writes c.args.store.now.layout row (part_of c.args.parity)) told)
+      (does_nothing (IsOfRow c.args.store.now.layout row) _ _);
 }
 
 pub write_sector-requires-clause-can : goal.write_sector-requires-clause-can
@@ -41,8 +32,7 @@ returns-in_err-write_sector-clause-writes g c told row of tells =
     let i = c.loop-column.column in
     let part = part_of c.args.parity in
     let h = c.loop-column.invariant.done told row of tells in
-    does_passed c.from_residual.ensures.1 (subst (λ ws. DoesWrites {A = Unit {0}} (IsOfRow layout row) (λ i'. ws) c.args.marks.now c.write_sector.new.marks
-    (g.R.Rack.seen c.args.rack.now) (g.R.Rack.seen c.write_sector.new.rack) (Err c.in_err-write_sector.field-0.0)) (columns_told layout row part told)
+    does_passed c.from_residual.ensures.1 (rw (← columns_told layout row part told)
     (flat_cut (column_writes layout row part) told (range_with_len 0 16) i i (omega (arith, c.loop-column-test.true, length-range_with_len 0 16))
     (column_at i i c.loop-column-test.true) h (c.in_err-write_sector.ensures.writes told row of (tells_still h tells))))
 
@@ -50,7 +40,5 @@ pub returns-clause-writes : goal.returns-clause-writes
 returns-clause-writes g c told row of tells =
     let layout = c.args.store.now.layout in
     let part = part_of c.args.parity in
-    let all = ap (flat_told (column_writes layout row part) told)
-    (take_all c.loop-column.column (range_with_len 0 16) (omega (arith, c.loop-column-test.false, length-range_with_len 0 16))) in
-    subst (λ ws. DoesWrites {A = Unit {0}} (IsOfRow layout row) (λ i'. ws) c.args.marks.now c.loop-column.marks (g.R.Rack.seen c.args.rack.now)
-    (g.R.Rack.seen c.loop-column.rack) (Ok tt)) (all ∙ columns_told layout row part told) (c.loop-column.invariant.done told row of tells)
+    let all = take_all c.loop-column.column (range_with_len 0 16) (omega (arith, c.loop-column-test.false, length-range_with_len 0 16)) in
+    rw (← columns_told layout row part told) (rw all at (c.loop-column.invariant.done told row of tells))

@@ -1,8 +1,6 @@
 use Rattle.std.proofs.Common.{◌≡◌, take, Ok}
-use Rattle.std.specs.List.{flat_map, range_with_len}
-use Rattle.btr_read.specs.Gathering.{part_of}
+use Rattle.btr_scrub_row.proofs.Common.{column_writes, flat_map, part_of, range_with_len}
 use Rattle.btr_scrub_row.specs.Preparing.{WritesPrepared}
-use Rattle.btr_scrub_row.specs.Writing.{column_writes}
 use Rattle.btr_scrub_row.proofs.sectors.write_parity.Given as goal
 
 abbrev pub invariant-loop-column : goal.invariant-loop-column

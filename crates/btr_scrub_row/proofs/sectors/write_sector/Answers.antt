@@ -1,13 +1,6 @@
 use Rattle.std.proofs.Common.{◌≡◌, ◌+◌, ◌*◌, ◌≤◌, length, slice_range, take, Some, sym, ap, ◌∙◌, subst, arith}
-use Rattle.btr_read.specs.Gathering.{part_of}
-use Rattle.btr_chunk.specs.Mapping.{HasPart}
-use Rattle.btr_read.proofs.Trials.{telling}
-use Rattle.btr_scrub_row.specs.Rows.{range_in_element}
-use Rattle.btr_scrub_row.specs.Mending.{IsOfRow}
-use Rattle.btr_scrub_row.specs.Preparing.{IsPrepared}
-use Rattle.btr_scrub_row.specs.Writing.{column_writes}
+use Rattle.btr_scrub_row.proofs.Common.{HasPart, IsOfRow, column_writes, does_nothing, part_of, range_in_element, telling}
 use Rattle.btr_scrub_row.proofs.Applied.{knows_of, sums_long}
-use Rattle.btr_scrub_copies.proofs.Doing.{does_nothing}
 use Rattle.btr_scrub_row.proofs.Columns.{in_the_row, written, writes_none, writes_sector}
 use Rattle.btr_scrub_row.proofs.Parts.{parity_there}
 use Rattle.btr_scrub_row.proofs.Pasted.{length-range}
@@ -36,12 +29,10 @@ pub returns-then-not-is_wrong-clause-writes : goal.returns-then-not-is_wrong-cla
 returns-then-not-is_wrong-clause-writes g c told row of tells =
     let layout = c.args.store.now.layout in
     let part = part_of c.args.parity in
-    let p = c.args.prepared.now in
     does_told (λ images. column_writes layout row part images c.args.column) told
     (λ images is. writes_none images layout row part c.args.column
-    (sym (c.is_wrong.ensures layout images row of
-    (telling told (λ images. IsPrepared images layout row p.judged.now p.buffer.now) tells.known images is)) ∙ c.if-not-is_wrong.true))
-    tells.untold (does_nothing (IsOfRow layout row) c.args.marks.now (g.R.Rack.seen c.args.rack.now))
+    (sym (c.is_wrong.ensures layout images row of (telling _ _ tells.known images is)) ∙ c.if-not-is_wrong.true))
+    tells.untold (does_nothing (IsOfRow layout row) _ _)
 
 pub returns-clause-writes : goal.returns-clause-writes
 returns-clause-writes g c told row of tells =
@@ -59,7 +50,7 @@ returns-clause-writes g c told row of tells =
     let long : length bytes ≡ 4096 = length-range sums (column * 4096) 4096 (omega (arith, room, c.requires.column)) in
     does_told (λ images. column_writes layout row part images column) told
     (λ images is.
-    let prepared = telling told (λ images. IsPrepared images layout row p.judged.now p.buffer.now) tells.known images is in
+    let prepared = telling _ _ tells.known images is in
     let k = knows_of images layout p.stripe row of p.judged.now p.buffer.now prepared c.args.parity c.requires.has in
     writes_sector layout p.stripe row of part has element at column c.requires.column images sums room
     (ap (take 65536) c.sums_of-sums.ensures ∙ k.new_is)

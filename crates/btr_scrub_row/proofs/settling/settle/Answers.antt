@@ -1,6 +1,5 @@
 use Rattle.std.proofs.Common.{sym, ap, ◌∙◌}
-use Rattle.btr_read.specs.Fate.{is_plain}
-use Rattle.btr_read.proofs.Fates.{sought_of}
+use Rattle.btr_scrub_row.proofs.Common.{is_plain, sought_of}
 use Rattle.btr_scrub_row.proofs.Settled.{settled_accepted, settled_plain}
 use Rattle.btr_scrub_row.proofs.settling.settle.Goals as goal
 
