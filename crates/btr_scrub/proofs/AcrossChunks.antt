@@ -1,9 +1,9 @@
 -- What is written in one chunk leaves the others.
 use Rattle.std.proofs.Common.{◌≡◌, ℕ, zero, suc, ◌+◌, ◌*◌, ◌/◌, ◌<◌, ◌≤◌, Bool, true, false, cond, eqb, List, [], ◌∷◌, length, take, slice_get, All, ◌⊎◌}
 use Rattle.std.proofs.Common.{Option, Some, None, is_none, IsSome, is_some, refl, sym, ap, ◌∙◌, subst, inl, inr, arith}
-use Rattle.btr_scrub.proofs.Common.{Chunk, Device, Elements, Failing, HasPart, HaveLengths, HaveOwnSlots, Images, IsChunk, IsOfElement, IsSought, IsTable}
-use Rattle.btr_scrub.proofs.Common.{KeepsOutside, Layout, Mirror, Part, Row, StripePlace, Tally, Target, Want, Write, all_writes_for, and_parts}
-use Rattle.btr_scrub.proofs.Common.{chunk_count_for, chunk_writes_for, count_row, count_row_of, count_site, device_in, eqb-true, facts, first_missing}
+use Rattle.btr_scrub.proofs.Common.{Chunk, Device, Elements, Failing, HasPart, HaveLengths, HaveOwnSlots, Images, In, IsChunk, IsOfElement, IsSought, IsTable}
+use Rattle.btr_scrub.proofs.Common.{KeepsOutside, Layout, Mirror, Part, Range, Row, StripePlace, Tally, Target, Want, Write, all_writes_for, and_parts}
+use Rattle.btr_scrub.proofs.Common.{chunk_count_for, chunk_writes_for, count_row, count_row_of, count_site, covers, device_in, eqb-true, facts, first_missing}
 use Rattle.btr_scrub.proofs.Common.{in_below, is_checked, is_in_chunk, is_in_row, is_lost_block, list_any, mending_writes, mirrors, parities, parity_writes}
 use Rattle.btr_scrub.proofs.Common.{passing_filter, place_at, placed_part, range_in_element, range_stands, range_with_len, row_of, row_writes, rows_count}
 use Rattle.btr_scrub.proofs.Common.{rows_in, rows_writes, sites_count, sites_in, sites_writes, stands_on, stripe_length, stripe_of, sum_by, targets}
@@ -12,9 +12,6 @@ use Rattle.std.specs.List.{count_by}
 use Rattle.btr_chunk.specs.Apart.{LiesIn}
 use Rattle.btr_chunk.proofs.Apart.{stripes_apart}
 use Rattle.btr_chunk.proofs.Rule.{data_count-some}
-use Rattle.btr_rack.specs.declared.place.Place.{Place as Range}
-use Rattle.btr_scrub.specs.BlocksInRows.{In}
-use Rattle.btr_scrub.specs.Repair.{covers}
 use Rattle.btr_scrub.proofs.Agreeing.{SiteAlike}
 use Rattle.btr_scrub.proofs.Blockwise.{stripe_stands, with_one_start, target_sought}
 use Rattle.btr_scrub.proofs.CopyWrites.{written_byte, site_stays}
@@ -88,10 +85,6 @@ element_in_chunk layout row q slot off table e =
 pub sum_same : {X : Type 0} (f g : X → ℕ) (xs : List X) → ((x : X) → In x xs → f x ≡ g x) → sum_by f xs ≡ sum_by g xs
 sum_same f g xs h = fold_same (λ a x. a + f x) (λ a x. a + g x) xs 0 (λ x i z. ap (λ n. z + n) (h x i))
 
--- so are counts
-count_same : {X : Type 0} (f g : X → Bool) (xs : List X) → ((x : X) → In x xs → f x ≡ g x) → count_by f xs ≡ count_by g xs
-count_same f g xs h = sum_same (λ x. cond (f x) 1 0) (λ x. cond (g x) 1 0) xs (λ x i. ap (λ b. cond b 1 0) (h x i))
-
 -- one of the first elements has a number below theirs
 in_take : {X : Type 0} (n : ℕ) (xs : List X) (x : X) → In x (take n xs) → (j : ℕ) × (j < n) × (slice_get xs j ≡ Some x)
 in_take zero xs x i = absurd i
@@ -109,7 +102,8 @@ row_counted images images' layout write row also tally a =
     let bad = sum_same (λ t. length (wrong_parts images' also t)) (λ t. length (wrong_parts images f t)) row.blocks (λ t i. ap length (a.blocks t i).wrong) in
     let repaired = sum_same (λ t. length (mending_writes images' also t)) (λ t. length (mending_writes images f t)) row.blocks
     (λ t i. ap length (a.blocks t i).writes) in
-    let lost = count_same (is_lost_block images') (is_lost_block images) row.blocks (λ t i. (a.blocks t i).lost) in
+    let lost = sum_same (λ t. cond (is_lost_block images' t) 1 0) (λ t. cond (is_lost_block images t) 1 0) row.blocks
+    (λ t i. ap (λ b. cond b 1 0) (a.blocks t i).lost) in
     let parity = sum_same (λ q. length (parity_writes images' layout (beside also row) q)) (λ q. length (parity_writes images layout row q))
     (parities row.chunk.profile) (λ q i. ap length (a.parities q i)) in
     ap (count_row_of row.blocks tally)
@@ -226,16 +220,12 @@ module _ (kept : Failing) (layout : Layout) (table : IsTable layout.chunks) (own
   number_same : (k j : ℕ) (c : Chunk) → slice_get layout.chunks k ≡ Some c → slice_get layout.chunks j ≡ Some c → k ≡ j
   number_same k j c e f = (with_one_start layout table k j c c e f refl).0
 
-  -- a block in a chunk with this start is in this chunk
-  start_same : (t : Target) (is : IsSought layout t) → t.chunk.start ≡ chunk.start → (is.number ≡ number) × (t.chunk ≡ chunk)
-  start_same t is e = with_one_start layout table is.number number t.chunk chunk is.there there e
-
   -- a block that the chunk is said to have is one of it
   pub of_chunk : (t : Target) → In t (sites_in layout chunk wants) → OfChunk layout number chunk t
   of_chunk t i =
       let f = passing_filter (is_in_chunk chunk) t (targets layout wants) i in
       let is = target_sought layout wants t f.0 in
-      let same = start_same t is (eqb-true t.chunk.start chunk.start f.1) in
+      let same = with_one_start layout table is.number number t.chunk chunk is.there there (eqb-true t.chunk.start chunk.start f.1) in
       record { is = is; number_is = same.0; chunk_is = same.1 }
 
   module _ (images : Images) (lengths : HaveLengths images layout) where

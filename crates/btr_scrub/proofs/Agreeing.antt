@@ -1,33 +1,26 @@
 -- What hangs on some bytes of the images stays where they do.
-use Rattle.std.proofs.Common.{◌≡◌, ℕ, ◌<◌, ◌&&◌, Bool, true, false, not, cond, List, [], ◌∷◌, length, slice_get, Option, Some, None, is_none, nat_lt, refl, ap}
-use Rattle.std.proofs.Common.{◌∙◌, subst, inl, inr}
-use Rattle.btr_scrub.proofs.Common.{Candidate, Failing, Images, Mended, Mirror, P, Part, Q, Read, Tally, Target, Write, accepted, and_parts, bad_parts}
-use Rattle.btr_scrub.proofs.Common.{block_writes, bytes_eq, candidates, cons_option, copy_writes, count_site, counted, counted_plain, filter, filter_map}
-use Rattle.btr_scrub.proofs.Common.{fresh, fresh_writes, freshened, in_below, is_checked, is_good, is_lost_block, is_on_behind, is_plain, is_sound, is_stale}
-use Rattle.btr_scrub.proofs.Common.{mended_of, mending_writes, mirrors, new_bytes, not-true, option_map, option_map_or, own_parts, passes, passing_filter}
-use Rattle.btr_scrub.proofs.Common.{range_with_len, renewed, stale_beside, stale_parts, stands, value_of, writes_if, wrong_parts}
+use Rattle.std.proofs.Common.{◌≡◌, ℕ, suc, ◌<◌, ◌&&◌, Bool, true, false, not, cond, List, [], ◌∷◌, length, slice_get, Option, Some, None, nat_lt, refl, ap, ◌∙◌}
+use Rattle.std.proofs.Common.{subst, inl, inr, arith}
+use Rattle.btr_scrub.proofs.Common.{Candidate, Failing, Images, In, Mirror, P, Part, Q, Read, Tally, Target, accepted, and_parts, bad_parts, block_writes}
+use Rattle.btr_scrub.proofs.Common.{bytes_eq, candidates, copy_writes, count_site, filter, filter_map, fresh, fresh_writes, in_below, is_lost_block}
+use Rattle.btr_scrub.proofs.Common.{is_on_behind, is_sound, is_stale, lt-ltb, mending_writes, mirrors, new_bytes, not-true, option_map, option_map_or}
+use Rattle.btr_scrub.proofs.Common.{own_parts, passes, passing_filter, range_with_len, stale_beside, stale_parts, stands, value_of, wrong_parts}
 use Rattle.btr_chunk.specs.declared.place.Part.TheVariants.{Slice}
 use Rattle.btr_read.specs.Candidates.{element, reading}
 use Rattle.btr_read.proofs.Order.{in_ways, with_copies}
-use Rattle.btr_scrub_copies.specs.Blocks.{are_accepted}
 use Rattle.btr_scrub_copies.specs.Fresh.{first_trusted, is_trusted, reads_doubtful}
-use Rattle.btr_scrub.specs.BlocksInRows.{In}
 use Rattle.btr_scrub.proofs.Lists.{of_mapped, first_in}
 use Rattle.btr_scrub.proofs.OwnPlaces.{own_copies}
 
 -- two tests that agree on all of a list pass the same
 pub filter_same : {X : Type 0} (p q : X → Bool) (xs : List X) → ((x : X) → In x xs → p x ≡ q x) → filter p xs ≡ filter q xs
 filter_same p q [] h = refl
-filter_same p q (x ∷ xs) h =
-    ap (λ b. cond b (x ∷ filter p xs) (filter p xs)) (h x (inl refl))
-    ∙ ap (λ ys. cond (q x) (x ∷ ys) ys) (filter_same p q xs (λ y i. h y (inr i)))
+filter_same p q (x ∷ xs) h = rw (h x (inl refl), filter_same p q xs (λ y i. h y (inr i)))
 
 -- what a list gives is the same where each of its members gives the same
 pub filter_map_same : {X Y : Type 0} (f g : X → Option Y) (xs : List X) → ((x : X) → In x xs → f x ≡ g x) → filter_map f xs ≡ filter_map g xs
 filter_map_same f g [] h = refl
-filter_map_same f g (x ∷ xs) h =
-    ap (λ o. cons_option o (filter_map f xs)) (h x (inl refl))
-    ∙ ap (cons_option (g x)) (filter_map_same f g xs (λ y i. h y (inr i)))
+filter_map_same f g (x ∷ xs) h = rw (h x (inl refl), filter_map_same f g xs (λ y i. h y (inr i)))
 
 -- the first candidate that is trusted is one of them, stands, and reads no image in doubt
 pub record IsTrusted (fails : Failing) (t : Target) (c : Candidate) : Type 0 where
@@ -42,9 +35,28 @@ trusted_from fails t c e =
     let both = and_parts (stands t c) (not (reads_doubtful fails t c)) p.1 in
     record { there = p.0; stand = both.0; sure = not-true (reads_doubtful fails t c) both.1 }
 
--- what comes of some parts and some writes
-abbrev came_of : Bool → List Part → List Write → Bool → Mended
-came_of write parts ws lost = record { bad = length parts; repaired = length (writes_if write ws); lost = lost }
+-- a stale place is one of the block's own, lies on an image that is behind, and differs from the fresh bytes
+pub record IsStaleAt (fails : Failing) (images : Images) (t : Target) (part : Part) : Type 0 where
+  pub bytes : List ℕ
+  pub gets : fresh images fails t ≡ Some bytes
+  pub behind : is_on_behind fails t part ≡ true
+  pub differs : bytes_eq (element images t part) bytes ≡ false
+
+-- each stale place is such a one
+pub stale_at : (fails : Failing) (images : Images) (t : Target) (part : Part) → In part (stale_parts images fails t) → IsStaleAt fails images t part
+stale_at fails images t part i = by (fresh images fails t) refl i
+  where
+    by : (o : Option (List ℕ)) → fresh images fails t ≡ o → In part (option_map_or (stale_beside images fails t) o []) → IsStaleAt fails images t part
+    by None e i = absurd i
+    by (Some bytes) e i =
+        let p = and_parts (is_on_behind fails t part) (not (bytes_eq (element images t part) bytes))
+        (passing_filter (is_stale images fails t bytes) part (own_parts t) i).1 in
+        record { bytes = bytes; gets = e; behind = p.0; differs = not-true (bytes_eq (element images t part) bytes) p.1 }
+
+-- a list with a member isn't empty
+pub some_long : (parts : List Part) (part : Part) → In part parts → nat_lt 0 (length parts) ≡ true
+some_long [] part i = absurd i
+some_long (p ∷ parts) part i = lt-ltb 0 (suc (length parts)) (omega arith)
 
 -- what comes of a block or a plain sector is the same, in other images and beside others that fail
 pub record SiteAlike (fails also : Failing) (images images' : Images) (t : Target) : Type 0 where
@@ -64,9 +76,7 @@ module _ (images images' : Images) (t : Target) (values : (c : Candidate) → In
 
   -- a place with the same bytes is sound in both images, or in neither
   sound : (part : Part) → element images' t part ≡ element images t part → is_sound images' t part ≡ is_sound images t part
-  sound (Mirror k) same =
-      ap (λ bytes. passes t.setting t.want bytes && are_accepted images' t bytes) same
-      ∙ ap (λ o. is_good images t (Mirror k) && option_map_or (bytes_eq (element images t (Mirror k))) o false) accepts
+  sound (Mirror k) same = rw (accepts, same)
   sound (Slice k) same = ap (passes t.setting t.want) same
   sound P same = ap (passes t.setting t.want) same
   sound Q same = ap (passes t.setting t.want) same
@@ -77,8 +87,7 @@ module _ (images images' : Images) (t : Target) (values : (c : Candidate) → In
 
   -- the writes that a checked block gets are the same
   blocks : block_writes images' t ≡ block_writes images t
-  blocks = ap (λ o. option_map_or (λ bytes. copy_writes t bytes (bad_parts images' t)) o []) accepts
-      ∙ ap (λ ps. option_map_or (λ bytes. copy_writes t bytes ps) (accepted images t) []) bads
+  blocks = ap (λ ps. option_map_or (λ bytes. copy_writes t bytes ps) (accepted images' t) []) bads ∙ rw accepts
 
   module _ (fails : Failing) where
     -- its fresh bytes are the same
@@ -100,31 +109,17 @@ module _ (images images' : Images) (t : Target) (values : (c : Candidate) → In
 
     -- the writes that a plain sector gets are the same
     fresh_writes_same : fresh_writes images' fails t ≡ fresh_writes images fails t
-    fresh_writes_same =
-        ap (λ ps. option_map_or (λ bytes. copy_writes t bytes ps) (fresh images' fails t) []) stale_same
-        ∙ ap (λ o. option_map_or (λ bytes. copy_writes t bytes (stale_parts images fails t)) o []) fresh_same
+    fresh_writes_same = rw (stale_same, fresh_same)
 
     -- then the same follows for the block from both
     pub site_alike : SiteAlike fails fails images images' t
-    site_alike =
-        let p = is_plain t.want in
-        record {
-          writes = ap (λ w. cond p w (block_writes images' t)) fresh_writes_same ∙ ap (λ w. cond p (fresh_writes images fails t) w) blocks;
-          wrong = ap (λ ps. cond p ps (bad_parts images' t)) stale_same ∙ ap (λ ps. cond p (stale_parts images fails t) ps) bads;
-          bytes = ap (λ ps. cond p (cond (nat_lt 0 (length ps)) (fresh images' fails t) None) (accepted images' t)) stale_same
-              ∙ ap (λ o. cond p (cond (nat_lt 0 (length (stale_parts images fails t))) o None) (accepted images' t)) fresh_same
-              ∙ ap (λ o. cond p (renewed images fails t) o) accepts;
-          lost = ap (λ o. is_checked t && is_none o) accepts;
-          counts = λ write tally.
-              let fresh_of = λ (parts : List Part) (ws : List Write).
-              cond p (counted_plain tally (came_of write parts ws false)) (counted tally (mended_of images' t write)) in
-              let block_of = λ (parts : List Part) (ws : List Write) (lost : Bool).
-              cond p (counted_plain tally (freshened images fails t write)) (counted tally (came_of write parts ws lost)) in
-              ap (λ ps. fresh_of ps (fresh_writes images' fails t)) stale_same ∙ ap (fresh_of (stale_parts images fails t)) fresh_writes_same
-              ∙ ap (λ ps. block_of ps (block_writes images' t) (is_none (accepted images' t))) bads
-              ∙ ap (λ ws. block_of (bad_parts images t) ws (is_none (accepted images' t))) blocks
-              ∙ ap (λ o. block_of (bad_parts images t) (block_writes images t) (is_none o)) accepts;
-        }
+    site_alike = record {
+      writes = rw (fresh_writes_same, blocks);
+      wrong = rw (stale_same, bads);
+      bytes = rw (stale_same, fresh_same, accepts);
+      lost = rw accepts;
+      counts = λ write tally. rw (fresh_writes_same, stale_same, blocks, bads, accepts);
+    }
 
 -- a block with copies that are the same
 pub copies_alike : (images images' : Images) (t : Target) (n : ℕ) → mirrors t.chunk ≡ Some n

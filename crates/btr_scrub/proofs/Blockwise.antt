@@ -1,26 +1,23 @@
 -- The blocks of a chunk with copies, one after another.
-use Rattle.std.proofs.Common.{◌≡◌, ℕ, ◌+◌, ◌<◌, ◌≤◌, Bool, false, cond, List, [], ◌∷◌, ◌++◌, map, length, get_or, slice_get, Option, Some, None, IsSome}
-use Rattle.std.proofs.Common.{is_some, Result, Ok, Err, IsOk, refl, sym, ap, ◌∙◌, subst, inl, inr, arith, append_assoc}
-use Rattle.btr_scrub.proofs.Common.{AreApart, BeginsBehind, Chunk, Failing, Fault, HasPart, HaveLengths, HaveOwnSlots, Images, IsPastChunk, IsSought, IsTable}
-use Rattle.btr_scrub.proofs.Common.{Layout, MendFault, Mirror, Part, Scrubs, Seen, Tally, Target, Want, addr_of, alone, cons_option, count_site, device_in}
-use Rattle.btr_scrub.proofs.Common.{eq-eqb, eqb-true, facts, false_from_ne_true, false≢true, filter, first_missing, flat_map, get_or-map, in_either}
-use Rattle.btr_scrub.proofs.Common.{is_in_chunk, len_of, length-map, mending_writes, mirrors, missing_stripes, ok_or_none, place_at, range_of, range_on}
-use Rattle.btr_scrub.proofs.Common.{range_stands, same_Some, sites_count, sites_in, sites_writes, size_of, sought, sought_of, stands_on, stripe_length}
-use Rattle.btr_scrub.proofs.Common.{targets}
+use Rattle.std.proofs.Common.{◌≡◌, ℕ, ◌+◌, ◌<◌, ◌≤◌, Bool, false, cond, List, ◌∷◌, ◌++◌, map, length, get_or, slice_get, Option, Some, None, IsSome, is_some}
+use Rattle.std.proofs.Common.{[], Result, Ok, Err, IsOk, refl, sym, ap, ◌∙◌, subst, inl, inr, arith, append_assoc}
+use Rattle.btr_scrub.proofs.Common.{AreApart, BeginsBehind, Blocks, Chunk, Failing, Fault, HasPart, HaveLengths, HaveOwnSlots, Images, In, IsPastChunk}
+use Rattle.btr_scrub.proofs.Common.{IsSought, IsTable, Layout, MendFault, Mirror, Part, Scrubs, Seen, Serves, Stripe, Tally, Target, Want, addr_of, alone}
+use Rattle.btr_scrub.proofs.Common.{cons_option, count_site, device_in, eq-eqb, eqb-true, facts, false_from_ne_true, false≢true, filter, first_missing}
+use Rattle.btr_scrub.proofs.Common.{flat_map, get_or-map, in_either, is_in_chunk, len_of, length-map, mending_writes, mirrors, missing_stripes, ok_or_none}
+use Rattle.btr_scrub.proofs.Common.{place_at, range_of, range_on, range_stands, same_Some, serving, sites_count, sites_in, sites_writes, size_of, sought}
+use Rattle.btr_scrub.proofs.Common.{sought_of, stands_on, stripe_length, targets}
 use Rattle.std.proofs.lemmas.Bool.{cases_order}
 use Rattle.std.proofs.lemmas.List.Elements.{filter-append, filter_map-append}
 use Rattle.btr_rack.specs.Rack.{IsRack, Slot, no_slot}
-use Rattle.btr_read.specs.Layout.{AreOpen}
 use Rattle.btr_scrub_copies.specs.Mending.{IsCopied}
-use Rattle.btr_scrub.specs.BlocksInRows.{In}
 use Rattle.btr_scrub.specs.Repair.{is_missing}
 use Rattle.btr_scrub.proofs.Scrubbing.{IsUnmoved, scrubs_none, told}
 use Rattle.btr_scrub.proofs.Positions.{is_sought, on_stripe, IsCopyByte, bounds_of, shares}
 use Rattle.btr_scrub.proofs.CopyWrites.{site_stays, written_byte}
 use Rattle.btr_scrub.proofs.Shorts.{site_short}
 use Rattle.btr_scrub.proofs.Pasting.{unmoved_by}
-use Rattle.btr_scrub.proofs.Lists.{some_of, some_if, in_flat, in_some, in_filter}
-use Rattle.btr_chunk.specs.declared.stripe.Stripe.{Stripe}
+use Rattle.btr_scrub.proofs.Lists.{some_of, some_if, in_flat, in_some, in_filter, of_filter_map}
 use Rattle.btr_scrub.proofs.Itemwise.{one_cut, one_more, scrubs_steps}
 use Rattle.btr_scrub.proofs.Grouping.{filter_all, filter_first}
 
@@ -40,14 +37,11 @@ pub record IsUnderway (fails : Failing) (layout : Layout) (write : Bool) (chunk 
 
 -- a target of some wants is that of one of them
 pub of_targets : (layout : Layout) (t : Target) (wants : List Want) → In t (targets layout wants) → (want : Want) × In want wants × (sought layout want ≡ Ok t)
-of_targets layout t [] i = absurd i
-of_targets layout t (want ∷ wants) i = by (sought layout want) refl i (of_targets layout t wants)
+of_targets layout t wants i = let f = of_filter_map (λ w. ok_or_none (sought layout w)) t wants i in (f.0, f.1, by (sought layout f.0) f.2)
   where
-    by : (r : Result Target Fault) → sought layout want ≡ r → In t (cons_option (ok_or_none r) (targets layout wants))
-        → (In t (targets layout wants) → (w : Want) × In w wants × (sought layout w ≡ Ok t)) → (w : Want) × In w (want ∷ wants) × (sought layout w ≡ Ok t)
-    by (Err f) e i rest = let r = rest i in (r.0, inr r.1, r.2)
-    by (Ok u) e (inl same) rest = (want, inl refl, e ∙ ap Ok same)
-    by (Ok u) e (inr j) rest = let r = rest j in (r.0, inr r.1, r.2)
+    by : (r : Result Target Fault) → ok_or_none r ≡ Some t → r ≡ Ok t
+    by (Ok u) e = ap Ok (same_Some u t e)
+    by (Err f) e = cc
 
 -- the position of a block of a list is one that was sought
 pub target_sought : (layout : Layout) (wants : List Want) (t : Target) → In t (targets layout wants) → IsSought layout t
@@ -127,19 +121,16 @@ module _ (layout : Layout) (table : IsTable layout.chunks) (number : ℕ) (chunk
       ∙ ap (λ b. targets layout past ++ cond b (t ∷ sites_in layout chunk rest) (sites_in layout chunk rest))
       (eq-eqb t.chunk.start chunk.start (ap (λ (c : Chunk). c.start) mine))
 
--- images have the lengths of the devices
-pub have_lengths : (rack : Seen) (layout : Layout) (images : Images) → IsRack rack → AreOpen rack.slots layout.devices → rack.held ≡ Some images
-    → HaveLengths images layout
-have_lengths rack layout images is open' held devid device given =
-    let o = open' devid device given in
+-- images have the lengths of the devices that the rack serves
+pub have_lengths : (rack : Seen) (store : Blocks) → IsRack rack → Serves rack store → (images : Images) → rack.held ≡ Some images
+    → HaveLengths images store.layout
+have_lengths rack store is serves images held devid device given =
+    let o = (serving rack store serves).are_open devid device given in
     let sized : map length images ≡ map (λ (slot : Slot). slot.len) rack.slots =
     told rack.held (λ images. map length images ≡ map (λ (slot : Slot). slot.len) rack.slots) images held is.sized in
     let few : length images ≡ length rack.slots = sym (length-map images length) ∙ ap length sized ∙ length-map rack.slots (λ (slot : Slot). slot.len) in
-    let one : get_or (map length images) device.slot 0 ≡ length (get_or images device.slot []) =
-    get_or-map length images device.slot [] 0 (omega (arith, o.slot, few)) in
-    let two : get_or (map (λ (slot : Slot). slot.len) rack.slots) device.slot 0 ≡ (get_or rack.slots device.slot no_slot).len =
-    get_or-map (λ (slot : Slot). slot.len) rack.slots device.slot no_slot 0 o.slot in
-    sym one ∙ ap (λ xs. get_or xs device.slot 0) sized ∙ two ∙ o.len
+    sym (get_or-map length images device.slot [] 0 (omega (arith, o.slot, few))) ∙ ap (λ xs. get_or xs device.slot 0) sized
+    ∙ get_or-map (λ (slot : Slot). slot.len) rack.slots device.slot no_slot 0 o.slot ∙ o.len
 
 module _ (fails : Failing) (layout : Layout) (write : Bool) (chunk : Chunk) (n : ℕ) (copies : mirrors chunk ≡ Some n) (table : IsTable layout.chunks)
     (own : HaveOwnSlots layout.devices) where

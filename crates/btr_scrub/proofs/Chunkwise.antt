@@ -1,7 +1,7 @@
 -- The chunks of a table, one after another, and the scan of each.
 use Rattle.std.proofs.Common.{◌≡◌, ℕ, ◌+◌, ◌-◌, List, [], drop, slice_get, Contains, Option, Some, None, Result, ap, ◌∙◌, subst}
-use Rattle.btr_scrub.proofs.Common.{Blocks, Chunk, Follows, Gathers, Layout, Map, SameLoans, Scan, Scene, Serves, Span, Super, TreeRoot, Volume, bind, drawn}
-use Rattle.btr_scrub.proofs.Common.{exec, get_or_from_slice_get, in_chunk, in_chunks, key, no_part, scene, slice_get_within, unread_by, without_leaf}
+use Rattle.btr_scrub.proofs.Common.{Chunk, Follows, Gathers, Layout, Map, SameLoans, Scan, Scene, Serves, Span, Super, TreeRoot, Volume, bind, drawn, exec}
+use Rattle.btr_scrub.proofs.Common.{get_or_from_slice_get, in_chunk, in_chunks, key, no_part, scene, slice_get_within, unread_by, without_leaf}
 use Rattle.btr_walk.specs.Advancing.{loan_of}
 use Rattle.btr_walk.specs.Lending.{base}
 use Rattle.btr_walk.specs.Range.{RangeProg, range}
@@ -35,10 +35,6 @@ pub range_of_span : (span : Span) (chunk : Chunk) (root : RootPlace) → span �
     ≡ range (key chunk.start 0 0) (key (chunk.start + chunk.length - 1) 255 last) root
 range_of_span span chunk root e = ap (λ (s : Span). range (key s.start 0 0) (key (s.start + s.length - 1) 255 last) root) e
 
--- without the leaf of a scan that has none, a store of blocks is as it is
-no_leaf : (store : Blocks) (scan : Scan) → scan.leaf ≡ None → without_leaf store scan ≡ store
-no_leaf store scan e = ap (λ l. base store (loan_of l)) e
-
 -- a scan that was made for a chunk came to its end, and gave its leaf back
 pub gathers_scan : (s : Super) (sums : Option TreeRoot) (chunk : Chunk) (x y : Scene) (scan scan' : Scan) (r : Result ℕ TheStop) (after : Volume)
     (p : RangeProg) → Scanned s sums chunk x y scan scan' r → s ≡ x.vol.sup → after.sup ≡ y.vol.sup → SameLoans (without_leaf y.vol.store scan') after.store
@@ -48,7 +44,7 @@ gathers_scan s sums chunk x y scan scan' r after p h same sup back serves none p
   reads = h.reads;
   volume = record {
     sup = sup ∙ h.sup;
-    store = same_then (subst (λ b. SameLoans b (without_leaf y.vol.store scan')) (no_leaf x.vol.store scan none) h.others) back;
+    store = same_then (subst (λ b. SameLoans b (without_leaf y.vol.store scan')) (ap (λ l. base x.vol.store (loan_of l)) none) h.others) back;
   };
   serves = serves;
   done = h.done;

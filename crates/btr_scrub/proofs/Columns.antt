@@ -1,19 +1,19 @@
 -- A block is left where few elements are wrong, or where it is right itself.
 use Rattle.std.proofs.Common.{◌≡◌, ◌⊎◌, ℕ, ◌+◌, ◌-◌, ◌*◌, ◌/◌, ◌<◌, ◌≤◌, true, false, not, cond, ◌&&◌, eqb, ltb, List, [], ◌∷◌, length, get_or, slice_range}
 use Rattle.std.proofs.Common.{All, Some, None, IfSome, IsNone, refl, sym, ap, ◌∙◌, subst, inl, inr, arith}
-use Rattle.btr_scrub.proofs.Common.{HasPart, Images, IsSoundRow, Layout, Mirror, P, Part, Profile, Q, Raid5, Raid6, Read, Row, Target, and_from, bad_parts}
-use Rattle.btr_scrub.proofs.Common.{blocks_at, candidates, data_count, eq-eqb, false≢true, is_good, is_plain, is_sound, lt-ltb, mirrors, option_map_or}
-use Rattle.btr_scrub.proofs.Common.{own_parts, parts_read, passes, passing_filter, right_for, size_of, slice_count, slices_with, stale_parts, stands}
-use Rattle.btr_scrub.proofs.Common.{value_of, without_copies, wrong_parts}
+use Rattle.btr_scrub.proofs.Common.{HasPart, Images, In, IsSoundRow, Layout, Mirror, P, Part, Profile, Q, Raid5, Raid6, Read, Row, Target, and_from, bad_parts}
+use Rattle.btr_scrub.proofs.Common.{blocks_at, candidates, data_count, eq-eqb, false≢true, is_good, is_plain, is_sound, lt-ltb, mirrors, own_parts, parts_read}
+use Rattle.btr_scrub.proofs.Common.{passes, passing_filter, right_for, size_of, slice_count, slices_with, stale_parts, stands, value_of, without_copies}
+use Rattle.btr_scrub.proofs.Common.{wrong_parts}
 use Rattle.std.specs.List.{Contains}
 use Rattle.btr_chunk.specs.declared.place.Part.TheVariants.{Slice}
-use Rattle.btr_read.specs.Candidates.{copies, rebuilt, ways}
+use Rattle.btr_read.specs.Candidates.{rebuilt}
 use Rattle.btr_read.specs.Candidates as read
 use Rattle.btr_read.proofs.Order.{in_candidates}
 use Rattle.btr_scrub_row.specs.Rows as rows
 use Rattle.btr_scrub_row.specs.Rows.{column_of, element, meets}
 use Rattle.btr_scrub.specs.Columns.{Committed, HasFewWrongAt, HasRightPlace, IsSoundIn, IsWrongAt, right_element}
-use Rattle.btr_scrub.specs.BlocksInRows.{In, IsNearly}
+use Rattle.btr_scrub.specs.BlocksInRows.{IsNearly}
 use Rattle.btr_scrub.specs.Right.{StandsFor}
 use Rattle.btr_scrub.specs.Survival.{AreBehind, FewAreFewAt, IsSoundBlock, KeepsRight, RightPasses, RowSurvives}
 use Rattle.btr_scrub.proofs.Elements.{block_of_element, part_stands}
@@ -30,12 +30,8 @@ own_way p n k (inr six) = subst (λ p. In (Read (Slice k)) (rebuilt p n k)) (sym
 
 -- a block's own place is one of its candidates, where there is parity
 pub own_candidate : (t : Target) → mirrors t.chunk ≡ None → In (Read (Slice t.at.index)) (candidates t)
-own_candidate t none = in_candidates t (Read (Slice t.at.index)) (subst (In (Read (Slice t.at.index))) (sym ways_are)
-    (own_way t.chunk.profile (slice_count t) t.at.index (without_copies t.chunk.profile (length t.chunk.stripes) none)))
-  where
-    -- without copies the ways to a block are to read its own slice, and to rebuild it
-    ways_are : ways t ≡ rebuilt t.chunk.profile (slice_count t) t.at.index
-    ways_are = ap (λ o. option_map_or copies o (rebuilt t.chunk.profile (slice_count t) t.at.index)) none
+own_candidate t none = in_candidates t (Read (Slice t.at.index)) (rw none (own_way t.chunk.profile (slice_count t) t.at.index
+    (without_copies t.chunk.profile (length t.chunk.stripes) none)))
 
 -- blocks that are apart begin behind the first place
 past : (ts : List Target) (end : ℕ) (t : Target) → AreBehind end ts → In t ts → end ≤ t.at.rest

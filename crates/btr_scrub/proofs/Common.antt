@@ -16,6 +16,7 @@ pub use Rattle.btr_chunk.specs.declared.place.StripePlace.{StripePlace}
 pub use Rattle.btr_chunk.specs.declared.position.Elements.{Elements}
 pub use Rattle.btr_chunk.specs.declared.profile.Profile.{Profile}
 pub use Rattle.btr_chunk.specs.declared.profile.Profile.TheVariants.{Raid5, Raid6}
+pub use Rattle.btr_chunk.specs.declared.stripe.Stripe.{Stripe}
 pub use Rattle.btr_files.specs.Sums.{kind_in, sum_at, tree_behind}
 pub use Rattle.btr_parity.specs.Slices.{IsSlice, parity_p, parity_q}
 pub use Rattle.btr_prog.proofs.Runs.{exec-bind}
@@ -23,7 +24,8 @@ pub use Rattle.btr_prog.specs.Answers.{Follows, no_part}
 pub use Rattle.btr_prog.specs.Prog.{Emit, Mark, Return, bind, exec, steps_of}
 pub use Rattle.btr_prog.specs.Quiet.{quiet}
 pub use Rattle.btr_rack.proofs.Reading.{reads_more}
-pub use Rattle.btr_rack.specs.Rack.{NoneFailed, OnlyReads, Seen, image_of, pasted, range_in}
+pub use Rattle.btr_rack.specs.Rack.{NoneFailed, OnlyReads, Seen, bytes_of, image_of, pasted, range_in}
+pub use Rattle.btr_rack.specs.declared.place.Place.{Place as Range}
 pub use Rattle.btr_read.proofs.Fates.{sought_of}
 pub use Rattle.btr_read.proofs.Ones.{in_below, in_either, in_left, in_right}
 pub use Rattle.btr_read.proofs.Pieces.{length-slice_range}
@@ -40,7 +42,7 @@ pub use Rattle.btr_read.specs.declared.candidate.Candidate.TheVariants.{Read}
 pub use Rattle.btr_read.specs.declared.device.Device.{Device}
 pub use Rattle.btr_read.specs.declared.want.Want.{Want}
 pub use Rattle.btr_read.specs.declared.want.Want.TheVariants.{Plain, Sector}
-pub use Rattle.btr_scrub.specs.BlocksInRows.{IsInRow, LiesInRow}
+pub use Rattle.btr_scrub.specs.BlocksInRows.{In, IsInRow, LiesInRow}
 pub use Rattle.btr_scrub.specs.Columns.{right_for}
 pub use Rattle.btr_scrub.specs.Devices.{HaveLengths}
 pub use Rattle.btr_scrub.specs.Doubts.{failing, fails_at, fails_on}
@@ -51,7 +53,7 @@ pub use Rattle.btr_scrub.specs.Listed.{AddsAll, AddsTo, AreOfKind, IsList, KeptB
 pub use Rattle.btr_scrub.specs.Order.{AreApart, AreUpTo, IsSought, targets}
 pub use Rattle.btr_scrub.specs.Pages.{items_in}
 pub use Rattle.btr_scrub.specs.Places.{IsOfElement}
-pub use Rattle.btr_scrub.specs.Repair.{first_missing, is_in_chunk, is_in_row, missing_stripes, ok_or_none, row_of, rows_in, stood}
+pub use Rattle.btr_scrub.specs.Repair.{covers, first_missing, is_in_chunk, is_in_row, missing_stripes, ok_or_none, row_of, rows_in, stood}
 pub use Rattle.btr_scrub.specs.Rowing.{untouched}
 pub use Rattle.btr_scrub.specs.Scrubbing.{BeginsBehind, CanMend, HasRooms, IsOfScrub, IsPastChunk, Scrubs, Works, all_count_for, all_writes_for}
 pub use Rattle.btr_scrub.specs.Scrubbing.{chunk_count_for, chunk_writes_for, count_row, count_row_of, count_site, counted, counted_plain, counted_row}
@@ -100,7 +102,7 @@ pub use Rattle.std.proofs.lemmas.List.{get_or-map, length-drop, length-map, take
 pub use Rattle.std.proofs.lemmas.List.Sums.{sum_by-cons}
 pub use Rattle.std.proofs.lemmas.Option.{get_or_from_slice_get, same_Some, slice_get_within}
 pub use Rattle.std.proofs.lemmas.Result.{err_from_is_err_and}
-pub use Rattle.std.specs.List.{cons_option, filter, filter_map, flat_map, list_any, range_with_len, sum_by}
+pub use Rattle.std.specs.List.{cons_option, filter, filter_map, flat_map, fold, list_any, range_with_len, sum_by}
 pub use Rattle.std.specs.Option.{option_map, option_map_or}
 pub use Rattle.std.specs.Str.{bytes_eq}
 pub use Rattle.std.specs.declared.alloc.Global.{Global}

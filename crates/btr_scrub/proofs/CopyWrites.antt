@@ -1,22 +1,18 @@
 -- The writes of blocks with copies leave the bytes of the blocks behind them.
-use Rattle.std.proofs.Common.{◌≡◌, ℕ, ◌+◌, ◌<◌, ◌≤◌, Bool, true, false, cond, List, [], ◌∷◌, length, slice_get, Option, Some, None, IsSome, IsSomeAnd, refl}
-use Rattle.std.proofs.Common.{sym, ap, ◌∙◌, subst, inl, inr, arith}
-use Rattle.btr_scrub.proofs.Common.{Candidate, Device, Failing, HaveLengths, Images, IsSought, KeepsOutside, Layout, Mirror, Part, Target, Write, cons_option}
-use Rattle.btr_scrub.proofs.Common.{device_in, false≢true, filter, filter_map, fresh, has_mirror, image_of, in_below, length-slice_range, list_any}
-use Rattle.btr_scrub.proofs.Common.{mending_writes, mirrors, option_map, option_map_or, passes, place_at, range_in, range_of, range_with_len, same_Some}
-use Rattle.btr_scrub.proofs.Common.{size_of, value_of}
-use Rattle.btr_rack.specs.Rack.{bytes_of}
-use Rattle.btr_rack.specs.declared.place.Place.{Place as Range}
+use Rattle.std.proofs.Common.{◌≡◌, ℕ, ◌+◌, ◌<◌, ◌≤◌, true, false, cond, List, [], length, slice_get, Option, Some, None, IsSome, IsSomeAnd, refl, sym, ap, ◌∙◌}
+use Rattle.std.proofs.Common.{subst, arith}
+use Rattle.btr_scrub.proofs.Common.{Candidate, Device, Failing, HaveLengths, Images, In, IsSought, KeepsOutside, Layout, Mirror, Part, Range, Target, Write}
+use Rattle.btr_scrub.proofs.Common.{bytes_of, covers, device_in, false≢true, filter, filter_map, fresh, has_mirror, image_of, in_below, length-slice_range}
+use Rattle.btr_scrub.proofs.Common.{list_any, mending_writes, mirrors, option_map, option_map_or, passes, passing_filter, place_at, range_in, range_of}
+use Rattle.btr_scrub.proofs.Common.{range_with_len, same_Some, size_of, value_of}
 use Rattle.btr_read.specs.Candidates.{element, reading}
-use Rattle.btr_scrub.specs.BlocksInRows.{In}
-use Rattle.btr_scrub.specs.Repair.{covers}
 use Rattle.btr_scrub_copies.specs.Fresh.{first_trusted}
 use Rattle.btr_scrub.proofs.Agreeing.{IsTrusted, SiteAlike, trusted_from, copies_alike}
 use Rattle.btr_scrub.proofs.Positions.{IsCopyByte, of_range}
 use Rattle.btr_scrub.proofs.OwnPlaces.{own_copies, over_byte, wrong_own}
 use Rattle.btr_scrub.proofs.Places.{covered, on_device}
 use Rattle.btr_scrub.proofs.Survival.{range_same}
-use Rattle.btr_scrub.proofs.Lists.{of_mapped}
+use Rattle.btr_scrub.proofs.Lists.{first_in, of_filter_map, of_mapped}
 
 -- ---- a range that stands
 
@@ -41,10 +37,6 @@ pub element_is : (images : Images) (t : Target) (part : Part) (range : Range) �
     ≡ bytes_of images range.slot range.off range.len
 element_is images t part range e = ap (λ (o : Option Range). option_map_or (λ range. bytes_of images range.slot range.off range.len) o []) e
 
--- a range that lies within its image has as many bytes as it says
-long_bytes : (images : Images) (slot off len : ℕ) → off + len ≤ length (image_of images slot) → length (bytes_of images slot off len) ≡ len
-long_bytes images slot off len within = length-slice_range (image_of images slot) off (off + len) within ∙ omega arith
-
 -- an element that stands is as long as its block
 pub long_element : (images : Images) (layout : Layout) (t : Target) (part : Part) → HaveLengths images layout → IsSought layout t
     → IsSome (range_of t part) → length (element images t part) ≡ size_of t
@@ -54,8 +46,9 @@ long_element images layout t part lengths is some = by (range_of t part) refl so
     by None e h = absurd (false≢true h)
     by (Some range) e h =
         let there = is_there images layout t part range lengths is e in
+        let off = (place_at t.chunk part t.at).offset in
         ap length (element_is images t part range e) ∙ ap (λ (r : Range). length (bytes_of images r.slot r.off r.len)) there.is
-        ∙ long_bytes images there.device.slot (place_at t.chunk part t.at).offset (size_of t) there.within
+        ∙ length-slice_range (image_of images there.device.slot) off (off + size_of t) there.within ∙ omega arith
 
 -- the same bytes, where none of a range's bytes is covered
 pub same_element : (images images' : Images) (layout : Layout) (ranges : List Range) (t : Target) (part : Part) → HaveLengths images layout
@@ -86,21 +79,10 @@ same_element images images' layout ranges t part lengths is keeps free = by (ran
 pub first_of : (images : Images) (t : Target) (cs : List Candidate) (bytes : List ℕ)
     → slice_get (filter (passes t.setting t.want) (filter_map (reading images t) cs)) 0 ≡ Some bytes → (c : Candidate) × In c cs
     × (reading images t c ≡ Some bytes)
-first_of images t [] bytes e = cc
-first_of images t (c ∷ cs) bytes e = by (reading images t c) refl e (first_of images t cs bytes)
-  where
-    by : (o : Option (List ℕ)) → reading images t c ≡ o → slice_get
-        (filter (passes t.setting t.want) (cons_option o (filter_map (reading images t) cs))) 0 ≡ Some bytes
-        → (slice_get (filter (passes t.setting t.want) (filter_map (reading images t) cs)) 0 ≡ Some bytes → (d : Candidate) × In d cs
-        × (reading images t d ≡ Some bytes)) → (d : Candidate) × In d (c ∷ cs) × (reading images t d ≡ Some bytes)
-    by None r e rest = let s = rest e in (s.0, inr s.1, s.2)
-    by (Some x) r e rest = or (passes t.setting t.want x) e
-      where
-        or : (b : Bool) → slice_get (cond b (x ∷ filter (passes t.setting t.want) (filter_map (reading images t) cs))
-            (filter (passes t.setting t.want) (filter_map (reading images t) cs))) 0 ≡ Some bytes
-            → (d : Candidate) × In d (c ∷ cs) × (reading images t d ≡ Some bytes)
-        or true e = (c, inl refl, r ∙ e)
-        or false e = let s = rest e in (s.0, inr s.1, s.2)
+first_of images t cs bytes e =
+    let all = filter_map (reading images t) cs in
+    of_filter_map (reading images t) bytes cs
+    (passing_filter (passes t.setting t.want) bytes all (first_in (filter (passes t.setting t.want) all) bytes e)).0
 
 -- the fresh bytes are those of a candidate that is trusted
 pub record IsFreshBy (fails : Failing) (images : Images) (t : Target) (bytes : List ℕ) : Type 0 where

@@ -1,16 +1,16 @@
 -- Flagging the images on which a block doesn't pass.
 use Rattle.std.proofs.Common.{◌≡◌, ℕ, ◌+◌, ◌<◌, ◌≤◌, Bool, true, false, cond, ◌&&◌, ◌||◌, not, eqb, leb, List, [], ◌∷◌, ◌++◌, length, set, get_or, Option, Some}
-use Rattle.std.proofs.Common.{None, IfSome, IsNone, IsOk, IsOkAnd, inl, inr, Result, Ok, Err, refl, sym, ap, ◌∙◌, subst, arith}
+use Rattle.std.proofs.Common.{None, IfSome, IsOk, IsOkAnd, inl, inr, Result, Ok, Err, refl, sym, ap, ◌∙◌, subst, arith}
 use Rattle.std.proofs.Math.Bool.{or-false, and-false, or-true, or_assoc}
-use Rattle.btr_scrub.proofs.Common.{AccountsMend, AreApart, Device, Flags, HasPart, Image, Images, IsSought, IsTable, Layout, LiesInStripe, Memory, MendFault}
-use Rattle.btr_scrub.proofs.Common.{Mirror, Part, Plain, Sector, Seen, Target, Want, addr_of, data_count, device_in, eq-eqb, eqb-true, failing, fails_at}
-use Rattle.btr_scrub.proofs.Common.{fails_on, false≢true, has_mirror, is_good, is_plain, len_of, list_any, list_any-false, mirrors, option_map_or, own_parts}
-use Rattle.btr_scrub.proofs.Common.{passes, place_at, range_in, range_of, range_on, range_with_len, same_Some, size_of, sought, sought_of, targets}
+use Rattle.btr_scrub.proofs.Common.{AccountsMend, AreApart, Device, Flags, HasPart, Images, IsSought, IsTable, Layout, LiesInStripe, MendFault, Mirror, Part}
+use Rattle.btr_scrub.proofs.Common.{Plain, Range, Seen, Target, Want, addr_of, device_in, eq-eqb, eqb-true, failing, fails_at, fails_on, false≢true, is_good}
+use Rattle.btr_scrub.proofs.Common.{is_plain, len_of, list_any, list_any-false, mirrors, option_map_or, own_parts, passes, place_at, range_in, range_of}
+use Rattle.btr_scrub.proofs.Common.{range_on, range_with_len, same_Some, size_of, sought, sought_of, targets}
 use Rattle.std.proofs.lemmas.List.{append_assoc, append-nil, get_or-set_other, get_or-set_same}
 use Rattle.std.proofs.lemmas.List.Folds.{list_any-append}
+use Rattle.std.proofs.lemmas.Option.{IfSome_then}
 use Rattle.btr_chunk.specs.declared.place.Part.TheVariants.{Slice}
 use Rattle.btr_rack.specs.Rack.{Slot, bytes_of}
-use Rattle.btr_rack.specs.declared.place.Place.{Place as Range}
 use Rattle.btr_read.specs.Candidates.{element}
 use Rattle.btr_read.specs.Layout.{AreOpen}
 use Rattle.btr_read.specs.declared.setting.Setting.{Setting}
@@ -24,6 +24,7 @@ use Rattle.btr_scrub.specs.Listed.{PassesIf}
 use Rattle.btr_scrub.proofs.Blockwise.{one_target}
 pub use Rattle.btr_scrub.proofs.Blockwise.{ok_of as the_sought}
 use Rattle.btr_scrub.proofs.Positions.{in_stripe}
+use Rattle.btr_scrub.proofs.Scrubbing.{account_weaker, tell}
 use Rattle.btr_scrub.proofs.Lists.{any_map}
 use Rattle.btr_scrub.proofs.OwnPlaces.{own_copies}
 use Rattle.btr_scrub_row.proofs.Settled.{own as own_are}
@@ -59,17 +60,17 @@ good_there layout want t part range images e is =
     ∙ ap (λ s. passes s t.want (bytes_of images range.slot range.off range.len)) of.setting_is
     ∙ ap (λ w. passes layout.setting w (bytes_of images range.slot range.off range.len)) of.want_is)
 
-module _ (images : Images) (t : Target) (part : Part) (flags : List Bool) where
-  -- no flag is needed
-  flags_still : ((slot : ℕ) → fails_at images t slot part ≡ false) → Flags flags (λ slot. fails_at images t slot part) flags
-  flags_still none slot = sym (ap (λ b. get_or flags slot false || b) (none slot) ∙ or-false (get_or flags slot false))
+-- flags stay where nothing fails
+pub flags_none : (flags : List Bool) (none : ℕ → Bool) → ((slot : ℕ) → none slot ≡ false) → Flags flags none flags
+flags_none flags none is slot = sym (ap (λ b. get_or flags slot false || b) (is slot) ∙ or-false (get_or flags slot false))
 
+module _ (images : Images) (t : Target) (part : Part) (flags : List Bool) where
   -- the block passes there
-  pub part_good : is_good images t part ≡ true → Flags flags (λ slot. fails_at images t slot part) flags
-  part_good e = flags_still (λ slot. ap (λ b. is_on t slot part && not b) e ∙ and-false (is_on t slot part))
+  part_good : is_good images t part ≡ true → Flags flags (λ slot. fails_at images t slot part) flags
+  part_good e = flags_none flags (λ slot. fails_at images t slot part) (λ slot. ap (λ b. is_on t slot part && not b) e ∙ and-false (is_on t slot part))
 
   -- it doesn't
-  pub part_bad : (range : Range) → range_of t part ≡ Some range → range.slot < length flags → is_good images t part ≡ false
+  part_bad : (range : Range) → range_of t part ≡ Some range → range.slot < length flags → is_good images t part ≡ false
       → Flags flags (λ slot. fails_at images t slot part) (set flags range.slot true)
   part_bad range is lt bad slot =
       let test : fails_at images t slot part ≡ (eqb range.slot slot && true) =
@@ -100,48 +101,36 @@ read_part layout want slots part range open' own at =
 pub want_fits : (setting : Setting) (want : Want) (n : ℕ) → setting.nodesize ≤ n → 4096 ≤ n → len_of setting want ≤ n
 want_fits setting (Tree addr generation level) n node sector = node
 want_fits setting (Block addr) n node sector = node
-want_fits setting (Sector addr sum) n node sector = sector
-want_fits setting (Plain addr) n node sector = sector
-
--- what follows from a fact of the images follows from what is told of them
-pub some_of : (held : Option Images) (P Q : Images → Type 0) → ((images : Images) → P images → Q images) → IfSome held P → IfSome held Q
-some_of None P Q h p = tt
-some_of (Some images) P Q h p = h images p
+want_fits setting want n node sector = sector
 
 module _ (layout : Layout) (want : Want) (t : Target) (part : Part) (range : Range) (held : Option Images) (flags : List Bool) (good : Bool)
     (e : sought layout want ≡ Ok t) (is : Some range ≡ range_of t part)
     (passing : IfSome held (λ images. good ≡ passes layout.setting want (bytes_of images range.slot range.off range.len))) where
   -- it passes there
   pub flags_good : good ≡ true → IfSome held (λ images. Flags flags (λ slot. fails_at images t slot part) flags)
-  flags_good is_good' = some_of held (λ images. good ≡ passes layout.setting want (bytes_of images range.slot range.off range.len))
-      (λ images. Flags flags (λ slot. fails_at images t slot part) flags)
-      (λ images h. part_good images t part flags (sym (good_there layout want t part range images e (sym is)) ∙ sym h ∙ is_good')) passing
+  flags_good is_good' = IfSome_then held {P = λ images. good ≡ passes layout.setting want (bytes_of images range.slot range.off range.len)}
+      {Q = λ images. Flags flags (λ slot. fails_at images t slot part) flags} passing
+      (λ images h. part_good images t part flags (sym (good_there layout want t part range images e (sym is)) ∙ sym h ∙ is_good'))
 
   -- or not
   pub flags_bad : range.slot < length flags → good ≡ false
       → IfSome held (λ images. Flags flags (λ slot. fails_at images t slot part) (set flags range.slot true))
-  flags_bad lt is_bad = some_of held (λ images. good ≡ passes layout.setting want (bytes_of images range.slot range.off range.len))
-      (λ images. Flags flags (λ slot. fails_at images t slot part) (set flags range.slot true))
-      (λ images h. part_bad images t part flags range (sym is) lt (sym (good_there layout want t part range images e (sym is)) ∙ sym h ∙ is_bad)) passing
+  flags_bad lt is_bad = IfSome_then held {P = λ images. good ≡ passes layout.setting want (bytes_of images range.slot range.off range.len)}
+      {Q = λ images. Flags flags (λ slot. fails_at images t slot part) (set flags range.slot true)} passing
+      (λ images h. part_bad images t part flags range (sym is) lt (sym (good_there layout want t part range images e (sym is)) ∙ sym h ∙ is_bad))
 
--- a copy is a part of its own
-pub own_copy : (layout : Layout) (want : Want) (n m : ℕ) → IsOk (sought layout want)
-    → ((t : Target) → sought layout want ≡ Ok t → mirrors t.chunk ≡ Some n) → m < n → HasOwn layout (Mirror m) want
-own_copy layout want n m ok copies lt =
+-- a part that a block's chunk has is one of its own
+pub own_part : (layout : Layout) (want : Want) (part : Part) → IsOk (sought layout want)
+    → ((t : Target) → sought layout want ≡ Ok t → HasPart t.chunk.profile (length t.chunk.stripes) part) → HasOwn layout part want
+own_part layout want part ok has =
     let f = the_sought (sought layout want) ok in
-    subst (λ r. IsOkAnd r (λ t. HasPart t.chunk.profile (length t.chunk.stripes) (Mirror m))) (sym f.1) (has_mirror f.0 n m (copies f.0 f.1) lt)
+    subst (λ r. IsOkAnd r (λ t. HasPart t.chunk.profile (length t.chunk.stripes) part)) (sym f.1) (has f.0 f.1)
 
 -- a read that failed in a part failed in a stripe
 pub parts_in_stripe : {A : Type 0} (layout : Layout) (t : Target) (old new : Seen) (r : Result A MendFault) → IsTable layout.chunks → IsSought layout t
     → AccountsMend (IsOfPart t) old new r → AccountsMend (LiesInStripe layout) old new r
-parts_in_stripe layout t old new (Ok x) table is h = h
-parts_in_stripe layout t old new (Err Memory) table is h = h
-parts_in_stripe layout t old new (Err (Image slot)) table is h = record {
-  place = h.place;
-  failed = h.failed;
-  on_slot = h.on_slot;
-  lies = in_stripe layout t h.lies.part h.place h.place table is h.lies.has h.lies.at (record { slot = refl; from = omega arith; to = omega arith });
-}
+parts_in_stripe layout t old new r table is h = account_weaker (IsOfPart t) (LiesInStripe layout) old new r (λ range lies.
+    in_stripe layout t lies.part range range table is lies.has lies.at (record { slot = refl; from = omega arith; to = omega arith })) h
 
 -- ---- one after another
 
@@ -149,10 +138,6 @@ parts_in_stripe layout t old new (Err (Image slot)) table is h = record {
 pub flags_then : (old mid new : List Bool) (a b c : ℕ → Bool) → Flags old a mid → Flags mid b new → ((slot : ℕ) → (a slot || b slot) ≡ c slot) → Flags old c new
 flags_then old mid new a b c one two is slot =
     two slot ∙ ap (λ x. x || b slot) (one slot) ∙ or_assoc (get_or old slot false) (a slot) (b slot) ∙ ap (λ x. get_or old slot false || x) (is slot)
-
--- flags stay where nothing fails
-pub flags_none : (flags : List Bool) (none : ℕ → Bool) → ((slot : ℕ) → none slot ≡ false) → Flags flags none flags
-flags_none flags none is slot = sym (ap (λ b. get_or flags slot false || b) (is slot) ∙ or-false (get_or flags slot false))
 
 -- the places of a block with copies, and of one in a slice
 pub fails_copies : (images : Images) (t : Target) (n slot : ℕ) → mirrors t.chunk ≡ Some n
@@ -164,26 +149,19 @@ fails_copies images t n slot e =
 pub fails_slice : (images : Images) (t : Target) (slot : ℕ) → mirrors t.chunk ≡ None → fails_at images t slot (Slice t.at.index) ≡ fails_on images slot t
 fails_slice images t slot e = sym (ap (list_any (fails_at images t slot)) (own_are images t e) ∙ or-false (fails_at images t slot (Slice t.at.index)))
 
--- what holds of all images holds of those that are told
-pub all_of : (held : Option Images) (P : Images → Type 0) → ((images : Images) → P images) → IfSome held P
-all_of None P h = tt
-all_of (Some images) P h = h images
-
 -- ---- a sector without a checksum
 
 -- any bytes pass as those of a sector without a checksum
 pub passes_plain : (setting : Setting) (want : Want) (bytes : List ℕ) → is_plain want ≡ true → passes setting want bytes ≡ true
-passes_plain setting (Tree addr generation level) bytes e = absurd (false≢true e)
-passes_plain setting (Block addr) bytes e = absurd (false≢true e)
-passes_plain setting (Sector addr sum) bytes e = absurd (false≢true e)
 passes_plain setting (Plain addr) bytes e = refl
+passes_plain setting want bytes e = absurd (false≢true e)
 
 -- it fails nowhere, so no flag is needed for it
 pub flags_plain : (layout : Layout) (want : Want) (t : Target) (held : Option Images) (flags : List Bool) → is_plain want ≡ true → sought layout want ≡ Ok t
     → IfSome held (λ images. Flags flags (λ slot. fails_on images slot t) flags)
 flags_plain layout want t held flags bare e =
-    all_of held (λ images. Flags flags (λ slot. fails_on images slot t) flags)
-    (λ images. flags_none flags (λ slot. fails_on images slot t)
+    tell held (λ images. Flags flags (λ slot. fails_on images slot t) flags)
+    (λ images told. flags_none flags (λ slot. fails_on images slot t)
     (λ slot. list_any-false (fails_at images t slot) (own_parts t) (λ i part there. never images slot part)))
   where
     -- it fails on no image at any place
@@ -216,40 +194,46 @@ looked_first layout held wants flags apart = record {
   split = refl;
   end = 0;
   apart = apart;
-  flags = all_of held (λ images. Flags flags (failing images (targets layout [])) flags)
-      (λ images. flags_none flags (failing images (targets layout [])) (λ slot. refl));
+  flags = tell held (λ images. Flags flags (failing images (targets layout [])) flags)
+      (λ images told. flags_none flags (failing images (targets layout [])) (λ slot. refl));
 }
 
--- one more was looked at
-pub looked_more : (layout : Layout) (held : Option Images) (wants left : List Want) (old mid new : List Bool) (want : Want) (rest : List Want) (t : Target)
-    → left ≡ want ∷ rest → sought layout want ≡ Ok t → LookedAt layout held wants left old mid
-    → IfSome held (λ images. Flags mid (λ slot. fails_on images slot t) new) → LookedAt layout held wants rest old new
-looked_more layout held wants left old mid new want rest t is e h flags = record {
-  past = h.past ++ want ∷ [];
-  split = h.split ∙ ap (λ xs. h.past ++ xs) is ∙ sym (append_assoc h.past (want ∷ []) rest);
-  end = addr_of want + len_of layout.setting want;
-  apart = (subst (AreApart layout h.end) is h.apart).2;
-  flags = both_of held (λ images. Flags old (failing images (targets layout h.past)) mid) (λ images. Flags mid (λ slot. fails_on images slot t) new)
-      (λ images. Flags old (failing images (targets layout (h.past ++ want ∷ []))) new)
-      (λ images one two. flags_then old mid new (failing images (targets layout h.past)) (λ slot. fails_on images slot t)
-      (failing images (targets layout (h.past ++ want ∷ []))) one two (λ slot.
-      sym (ap (list_any (fails_on images slot)) (one_target layout h.past want t [] e) ∙ list_any-append (fails_on images slot) (targets layout h.past) (t ∷ [])
-      ∙ ap (λ b. list_any (fails_on images slot) (targets layout h.past) || b) (or-false (fails_on images slot t))))) h.flags flags;
-}
+module _ {layout : Layout} {held : Option Images} {wants left : List Want} {old new : List Bool} (h : LookedAt layout held wants left old new) where
+  -- the next one has a position
+  pub looks_next : {want : Want} {rest : List Want} → left ≡ want ∷ rest → IsOk (sought layout want)
+  looks_next is = (subst (AreApart layout h.end) is h.apart).1
 
--- the next one has a position
-pub looks_next : (layout : Layout) (held : Option Images) (wants left : List Want) (old new : List Bool) (want : Want) (rest : List Want) → left ≡ want ∷ rest
-    → LookedAt layout held wants left old new → IsOk (sought layout want)
-looks_next layout held wants left old new want rest is h = (subst (AreApart layout h.end) is h.apart).1
+  -- one more was looked at
+  pub looked_more : (want : Want) (rest : List Want) (t : Target) (last : List Bool) → left ≡ want ∷ rest → sought layout want ≡ Ok t
+      → IfSome held (λ images. Flags new (λ slot. fails_on images slot t) last) → LookedAt layout held wants rest old last
+  looked_more want rest t last is e flags = record {
+    past = h.past ++ want ∷ [];
+    split = h.split ∙ ap (λ xs. h.past ++ xs) is ∙ sym (append_assoc h.past (want ∷ []) rest);
+    end = addr_of want + len_of layout.setting want;
+    apart = (subst (AreApart layout h.end) is h.apart).2;
+    flags = both_of held (λ images. Flags old (failing images (targets layout h.past)) new) (λ images. Flags new (λ slot. fails_on images slot t) last)
+        (λ images. Flags old (failing images (targets layout (h.past ++ want ∷ []))) last)
+        (λ images one two. flags_then old new last (failing images (targets layout h.past)) (λ slot. fails_on images slot t)
+        (failing images (targets layout (h.past ++ want ∷ []))) one two (λ slot.
+        sym (ap (list_any (fails_on images slot)) (one_target layout h.past want t [] e)
+        ∙ list_any-append (fails_on images slot) (targets layout h.past) (t ∷ [])
+        ∙ ap (λ b. list_any (fails_on images slot) (targets layout h.past) || b) (or-false (fails_on images slot t))))) h.flags flags;
+  }
+
+  -- all were looked at: the flags are those of the images that fail
+  pub looked_done : left ≡ [] → IfSome held (λ images. Flags old (failing images (targets layout wants)) new)
+  looked_done none =
+      subst (λ ws. IfSome held (λ images. Flags old (failing images (targets layout ws)) new))
+      (sym (h.split ∙ ap (λ xs. h.past ++ xs) none ∙ append-nil h.past)) h.flags
 
 -- plain sectors are passed, which fail nowhere
 looked_plain : (layout : Layout) (held : Option Images) (wants : List Want) (old new : List Bool) (past left rest : List Want) → left ≡ past ++ rest
     → ((want : Want) → In want past → is_plain want ≡ true) → LookedAt layout held wants left old new → LookedAt layout held wants rest old new
 looked_plain layout held wants old new [] left rest e plain h = subst (λ ws. LookedAt layout held wants ws old new) e h
 looked_plain layout held wants old new (want ∷ past) left rest e plain h =
-    let t = the_sought (sought layout want) (looks_next layout held wants left old new want (past ++ rest) e h) in
+    let t = the_sought (sought layout want) (looks_next h e) in
     looked_plain layout held wants old new past (past ++ rest) rest refl (λ w i. plain w (inr i))
-    (looked_more layout held wants left old new new want (past ++ rest) t.0 e t.1 h (flags_plain layout want t.0 held new (plain want (inl refl)) t.1))
+    (looked_more h want (past ++ rest) t.0 new e t.1 (flags_plain layout want t.0 held new (plain want (inl refl)) t.1))
 
 -- the same where some are to be passed
 pub looked_passed : (layout : Layout) (held : Option Images) (wants : List Want) (old new : List Bool) (wanted : Bool) (left : List Want) (end : ℕ)
@@ -257,25 +241,11 @@ pub looked_passed : (layout : Layout) (held : Option Images) (wants : List Want)
 looked_passed layout held wants old new false left end rest p h = subst (λ ws. LookedAt layout held wants ws old new) (sym p) h
 looked_passed layout held wants old new true left end rest p h = looked_plain layout held wants old new p.past left rest p.split p.plain h
 
--- all were looked at: the flags are those of the images that fail
-pub looked_done : (layout : Layout) (held : Option Images) (wants left : List Want) (old new : List Bool) → left ≡ [] → LookedAt layout held wants left old new
-    → IfSome held (λ images. Flags old (failing images (targets layout wants)) new)
-looked_done layout held wants left old new none h =
-    subst (λ ws. IfSome held (λ images. Flags old (failing images (targets layout ws)) new))
-    (sym (h.split ∙ ap (λ xs. h.past ++ xs) none ∙ append-nil h.past)) h.flags
-
--- a block's slice is a part of its own, where there is parity
-pub own_slice : (layout : Layout) (want : Want) (i : ℕ) → IsOk (sought layout want) → ((t : Target) → sought layout want ≡ Ok t → mirrors t.chunk ≡ None)
-    → ((t : Target) → sought layout want ≡ Ok t → i < data_count t.chunk.profile (length t.chunk.stripes)) → HasOwn layout (Slice i) want
-own_slice layout want i ok none below =
-    let f = the_sought (sought layout want) ok in
-    subst (λ r. IsOkAnd r (λ t. HasPart t.chunk.profile (length t.chunk.stripes) (Slice i))) (sym f.1) (subst IsNone (sym (none f.0 f.1)) refl, below f.0 f.1)
-
 -- flags by a test that says the same
 pub flags_as : (layout : Layout) (want : Want) (rack : Seen) (f g : Images → Target → ℕ → Bool) (old new : List Bool) (r : Result (Unit {0}) MendFault)
     → ((t : Target) (images : Images) (slot : ℕ) → sought layout want ≡ Ok t → f images t slot ≡ g images t slot)
     → FlagsBlock layout want rack f old new r → FlagsBlock layout want rack g old new r
 flags_as layout want rack f g old new (Err x) same h t e = tt
 flags_as layout want rack f g old new (Ok u) same h t e =
-    some_of rack.held (λ images. Flags old (f images t) new) (λ images. Flags old (g images t) new)
-    (λ images flags slot. flags slot ∙ ap (λ b. get_or old slot false || b) (same t images slot e)) (h t e)
+    IfSome_then rack.held {P = λ images. Flags old (f images t) new} {Q = λ images. Flags old (g images t) new} (h t e)
+    (λ images flags slot. flags slot ∙ ap (λ b. get_or old slot false || b) (same t images slot e))

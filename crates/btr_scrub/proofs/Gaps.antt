@@ -1,16 +1,16 @@
 -- Sectors without a checksum that follow each other are listed at once.
-use Rattle.std.proofs.Common.{◌≡◌, ℕ, zero, suc, ◌+◌, ◌-◌, ◌*◌, ◌^◌, ◌≤◌, ◌<◌, [], ◌∷◌, ◌++◌, Option, None, Result, Ok, Err, OnOk}
-use Rattle.std.proofs.Common.{refl, sym, ap, ◌∙◌, subst, arith}
+use Rattle.std.proofs.Common.{◌≡◌, ℕ, zero, suc, ◌+◌, ◌-◌, ◌*◌, ◌^◌, ◌≤◌, ◌<◌, [], ◌∷◌, ◌++◌, Option, None, Result, Ok, Err, OnOk, refl, sym, ap, ◌∙◌, subst}
+use Rattle.std.proofs.Common.{arith}
 use Rattle.std.specs.Prelude.{fold, min}
 use Rattle.btr_scrub.proofs.Common.{AddsAll, Follows, Gathered, Gathers, Lists, Map, OnlyReads, Plain, SameVolume, Scene, Seen, Serves, Sum, Super, Tells}
-use Rattle.btr_scrub.proofs.Common.{TreeRoot, UnreadBlock, Volume, Want, bind, count_met, drawn, exec, exec-bind, kept_wants, kind_in, no_part, plains_from}
-use Rattle.btr_scrub.proofs.Common.{quiet, scene, sector, sector_met, sectors, steps_of, sum_at, unread_by, wants_among}
+use Rattle.btr_scrub.proofs.Common.{TreeRoot, UnreadBlock, Volume, Want, bind, count_met, exec, exec-bind, kept_wants, kind_in, no_part, plains_from, quiet}
+use Rattle.btr_scrub.proofs.Common.{scene, sector, sector_met, sectors, steps_of, sum_at, unread_by, wants_among}
 use Rattle.btr_prog.proofs.Follow.{follows_then}
 use Rattle.btr_prog.proofs.Quieting.{follows_quiet}
 use Rattle.btr_files.specs.Gaps.{HaveNone}
 use Rattle.btr_files.proofs.Binds.{bind_assoc, bind_same}
 use Rattle.btr_scrub.specs.Gathering.{gap_met, sectors_met}
-use Rattle.btr_scrub.proofs.Gathering.{gathers_then, gathers_value}
+use Rattle.btr_scrub.proofs.Gathering.{gathers_then, gathers_told, gathers_value}
 use Rattle.btr_scrub.proofs.OneSector.{met_of}
 use Rattle.btr_files.proofs.AheadLooks.{no_steps}
 
@@ -83,18 +83,8 @@ pub gathers_gap : (s : Super) (sums : Option TreeRoot) (addr n len : ℕ) (old n
     → Serves new vol'.store → OnlyReads old new → SameVolume vol vol' → Tells vol.store.layout old new (λ B. HaveNone (kind_in s) B sums addr len)
     → Lists x y (gap_met n addr) → Gathers (sectors s sums n addr) (scene old vol x) (scene new vol' y) (Ok tt)
 gathers_gap s sums addr n len old new vol vol' x y few serves reads same told listed =
-    let layout = vol.store.layout in
-    record {
-      reads = reads;
-      volume = same;
-      serves = serves;
-      done = gap_met n addr;
-      lists = listed;
-      content = drawn layout (λ B. HaveNone (kind_in s) B sums addr len)
-          (λ B. Follows (unread_by layout old new) no_part [] (exec B (sectors s sums n addr)) (gap_met n addr) (Ok tt))
-          (λ B none. follows_sectors (unread_by layout old new) B s sums (λ a. None) n addr (λ i lt. none i (omega (arith, lt, few)))) told;
-      cause = tt;
-    }
+    gathers_told (sectors s sums n addr) (λ B. HaveNone (kind_in s) B sums addr len) old new vol vol' x y (gap_met n addr) (Ok tt) serves reads same listed
+    (λ B none. follows_sectors (unread_by vol.store.layout old new) B s sums (λ a. None) n addr (λ i lt. none i (omega (arith, lt, few)))) told tt
 
 -- one sector was listed
 pub gathers_one : (s : Super) (sums : Option TreeRoot) (addr : ℕ) (x y : Scene) → Gathers (sector s sums addr) x y (Ok tt)

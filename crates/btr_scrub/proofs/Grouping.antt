@@ -1,8 +1,7 @@
 -- Lists in which those that pass a test stand together, and those of one number behind those of the numbers before.
 use Rattle.std.proofs.Common.{◌≡◌, ℕ, ◌<◌, ◌≤◌, Bool, true, false, cond, List, [], ◌∷◌, ◌++◌, refl, ap, ◌∙◌, inl, inr, arith, append-nil}
 use Rattle.std.proofs.lemmas.List.Elements.{filter-append}
-use Rattle.btr_scrub.proofs.Common.{filter}
-use Rattle.btr_scrub.specs.BlocksInRows.{In}
+use Rattle.btr_scrub.proofs.Common.{In, filter}
 
 module _ {X : Type 0} (p : X → Bool) where
   -- where all pass, all are left

@@ -1,7 +1,6 @@
 -- The blocks of a row, collected one by one.
-use Rattle.std.proofs.Common.{◌≡◌, ℕ, true, cond, List, [], ◌∷◌, ◌++◌, Some, None, refl, sym, ap, ◌∙◌, subst, inl, inr, append_assoc}
-use Rattle.btr_scrub.proofs.Common.{Chunk, Want, addr_of, holds, in_either, position}
-use Rattle.btr_scrub.specs.BlocksInRows.{In}
+use Rattle.std.proofs.Common.{◌≡◌, ℕ, true, List, [], ◌∷◌, ◌++◌, Some, None, refl, sym, ap, ◌∙◌, subst, inl, inr, append_assoc}
+use Rattle.btr_scrub.proofs.Common.{Chunk, In, Want, addr_of, holds, in_either}
 use Rattle.btr_scrub.specs.Rowing.{row_in}
 
 -- so far: a first block, and some behind it
@@ -33,7 +32,4 @@ collects_more chunk row first want old new rest wants wants' h is in_row e = rec
 
 -- an address of the chunk has a row
 pub has_row : (chunk : Chunk) (addr : ℕ) → holds chunk addr ≡ true → row_in chunk addr ≡ None → ⊥
-has_row chunk addr e none = some_none (position chunk addr).row (ap (λ b. cond b (Some (position chunk addr).row) None) (sym e) ∙ none)
-  where
-    some_none : (n : ℕ) → Some n ≡ None → ⊥
-    some_none n e = cc
+has_row chunk addr e none = let h = rw e at none in cc

@@ -1,15 +1,12 @@
 -- Each range that is written is a place without the committed bytes, or a column of a parity that isn't right there.
-use Rattle.std.proofs.Common.{◌≡◌, ◌⊎◌, ℕ, ◌+◌, ◌*◌, ◌/◌, ◌≤◌, Bool, true, false, not, cond, List, map, length, Some, None, refl, sym, ap, ◌∙◌}
-use Rattle.std.proofs.Common.{subst, inl, inr, arith}
-use Rattle.btr_scrub.proofs.Common.{AreApart, Chunk, Failing, HaveLengths, HaveOwnSlots, Images, IsSought, IsTable, Layout, Part, Row, Target, Want, Write}
-use Rattle.btr_scrub.proofs.Common.{accepted, all_writes_for, bad_parts, false≢true, first_missing, flat_map, in_either, is_in_row, is_plain, is_sound}
+use Rattle.std.proofs.Common.{◌≡◌, ◌⊎◌, ℕ, ◌+◌, ◌*◌, ◌/◌, ◌≤◌, Bool, true, false, not, List, map, length, Some, None, refl, sym, ◌∙◌, subst, inl, inr, arith}
+use Rattle.btr_scrub.proofs.Common.{AreApart, Chunk, Failing, HaveLengths, HaveOwnSlots, Images, In, IsSought, IsTable, Layout, Part, Range, Row, Target, Want}
+use Rattle.btr_scrub.proofs.Common.{Write, accepted, all_writes_for, false≢true, first_missing, flat_map, in_either, is_in_row, is_plain, is_sound}
 use Rattle.btr_scrub.proofs.Common.{mending_writes, not-true, own_parts, parities, parity_writes, passing_filter, range_in_element, range_of, range_with_len}
-use Rattle.btr_scrub.proofs.Common.{renewed, row_of, row_writes, rows_in, stale_parts, stripe_length, targets}
+use Rattle.btr_scrub.proofs.Common.{row_of, row_writes, rows_in, stale_parts, stripe_length, targets}
 use Rattle.std.specs.List.{Any}
-use Rattle.btr_rack.specs.declared.place.Place.{Place as Range}
 use Rattle.btr_read.specs.Candidates.{element}
 use Rattle.btr_read.proofs.Ones.{below_in}
-use Rattle.btr_scrub.specs.BlocksInRows.{In}
 use Rattle.btr_scrub.specs.Right.{Committed, IsOfStale, IsOfWrongParity, IsOfWrongPlace, IsRightIn}
 use Rattle.btr_scrub.proofs.AcrossChunks.{row_is, ForCopies, ForRow, for_one}
 use Rattle.btr_scrub.proofs.Lists.{any_in, of_flat, of_mapped, in_map, in_some}
@@ -47,14 +44,12 @@ module _ (kept : Failing) (images : Images) (layout : Layout) (C : Committed) (w
         among,
         (
           e,
-          any_in (λ q. range_of t q ≡ Some w.range) (stale_parts images kept t) o.part
-              (subst (λ b. In o.part (cond b (stale_parts images kept t) (bad_parts images t))) e o.wrong) o.range,
+          any_in (λ q. range_of t q ≡ Some w.range) (stale_parts images kept t) o.part (rw e at o.wrong) o.range,
         ),
       )
       by false e =
-          let bad = passing_filter (λ q. not (is_sound images t q)) o.part (own_parts t)
-          (subst (λ b. In o.part (cond b (stale_parts images kept t) (bad_parts images t))) e o.wrong) in
-          let accepts : accepted images t ≡ Some w.bytes = sym (ap (λ b. cond b (renewed images kept t) (accepted images t)) e) ∙ o.gets in
+          let bad = passing_filter (λ q. not (is_sound images t q)) o.part (own_parts t) (rw e at o.wrong) in
+          let accepts : accepted images t ≡ Some w.bytes = rw e at o.gets in
           inl (
             t,
             among,

@@ -1,37 +1,25 @@
 -- Where no image of a chunk is behind, nothing is stale there.
-use Rattle.std.proofs.Common.{◌≡◌, ℕ, Bool, true, false, ◌&&◌, List, [], length, Option, Some, None, refl, sym, ap, ◌∙◌, subst, ◌||◌, nat_lt, cond}
-use Rattle.btr_scrub.proofs.Common.{Chunk, Device, Failing, Images, IsSought, IsTable, Layout, Mended, Mirror, Part, Target, copy_writes, device_in, fresh}
-use Rattle.btr_scrub.proofs.Common.{fresh_writes, freshened, has_behind, has_mirror, has_older, in_below, is_on_behind, list_any-false, mirrors}
-use Rattle.btr_scrub.proofs.Common.{option_map_or, or_parts, own_parts, place_at, range_with_len, renewed, stale_parts, writes_if}
+use Rattle.std.proofs.Common.{◌≡◌, ℕ, Bool, false, List, [], length, Option, Some, None, refl, sym, ap, ◌∙◌, subst, arith}
+use Rattle.btr_scrub.proofs.Common.{Chunk, Failing, Images, In, IsSought, IsTable, Layout, Mended, Mirror, Part, Target, copy_writes, fresh, fresh_writes}
+use Rattle.btr_scrub.proofs.Common.{freshened, has_behind, has_mirror, has_older, in_below, is_on_behind, list_any-false, mirrors, option_map_or, own_parts}
+use Rattle.btr_scrub.proofs.Common.{place_at, range_with_len, renewed, stale_parts, writes_if}
 use Rattle.btr_chunk.specs.declared.stripe.Stripe.{Stripe}
 use Rattle.btr_read.specs.declared.device.Member.{Member}
 use Rattle.btr_scrub_copies.specs.Fresh.{is_behind, is_doubtful}
-use Rattle.btr_scrub.specs.BlocksInRows.{In}
 use Rattle.btr_scrub.specs.Judged.{is_older}
 use Rattle.btr_scrub.proofs.Positions.{on_stripe}
 use Rattle.btr_chunk.proofs.Searches.{fails-list_any}
 use Rattle.btr_scrub.proofs.Lists.{of_mapped, in_some}
-use Rattle.std.proofs.lemmas.Bool.{and_left}
 use Rattle.btr_scrub.proofs.OwnPlaces.{own_copies}
 use Rattle.btr_scrub_copies.proofs.Freshness.{none_stale as stale_not}
 
 -- an image that isn't older isn't behind
 inert_device : (fails : Failing) (devices : List Member) (devid : ℕ) → is_older devices devid ≡ false → is_behind devices fails devid ≡ false
-inert_device fails devices devid h = by (device_in devices devid) h
-  where
-    by : (o : Option Device) → option_map_or (λ device. device.older) o false ≡ false
-        → option_map_or (λ device. device.older && fails device.slot) o false ≡ false
-    by None h = refl
-    by (Some device) h = ap (λ b. b && fails device.slot) h
+inert_device fails devices devid h = grind arith
 
 -- an image that isn't in doubt isn't behind
 pub sure_device : (fails : Failing) (devices : List Member) (devid : ℕ) → is_doubtful devices fails devid ≡ false → is_behind devices fails devid ≡ false
-sure_device fails devices devid h = by (device_in devices devid) h
-  where
-    by : (o : Option Device) → option_map_or (λ device. device.older || fails device.slot) o false ≡ false
-        → option_map_or (λ device. device.older && fails device.slot) o false ≡ false
-    by None h = refl
-    by (Some device) h = and_left device.older (fails device.slot) (or_parts device.older (fails device.slot) h).0
+sure_device fails devices devid h = grind arith
 
 -- nor is one of a chunk without older ones
 pub inert_chunk : (fails : Failing) (devices : List Member) (chunk : Chunk) → has_older devices chunk ≡ false → has_behind devices fails chunk ≡ false
@@ -62,7 +50,7 @@ module _ (fails : Failing) (layout : Layout) (t : Target) (n : ℕ) (table : IsT
 
     -- nothing is written for it
     pub none_fresh : fresh_writes images fails t ≡ []
-    none_fresh = ap (λ ps. option_map_or (λ bytes. copy_writes t bytes ps) (fresh images fails t) []) none_stale ∙ by (fresh images fails t)
+    none_fresh = rw none_stale (by (fresh images fails t))
       where
         by : (o : Option (List ℕ)) → option_map_or (λ bytes. copy_writes t bytes []) o [] ≡ []
         by None = refl
@@ -70,15 +58,10 @@ module _ (fails : Failing) (layout : Layout) (t : Target) (n : ℕ) (table : IsT
 
     -- it gets no bytes
     pub none_renewed : renewed images fails t ≡ None
-    none_renewed = ap (λ ps. cond (nat_lt 0 (length ps)) (fresh images fails t) None) none_stale
+    none_renewed = rw none_stale
 
     -- nothing is counted for it
     pub none_freshened : (write : Bool) → freshened images fails t write ≡ nothing
-    none_freshened write =
-        ap (λ ps. record { bad = length ps; repaired = length (writes_if write (fresh_writes images fails t)); lost = false }) none_stale
-        ∙ ap (λ ws. record { bad = 0; repaired = length (writes_if write ws); lost = false }) none_fresh
-        ∙ by write
-      where
-        by : (b : Bool) → ◌≡◌ {A = Mended} (record { bad = 0; repaired = length (writes_if b []); lost = false }) nothing
-        by true = refl
-        by false = refl
+    none_freshened write = rw (none_fresh, none_stale) (
+        let none : length (writes_if write []) ≡ 0 = grind arith in
+        ap (λ n. record { bad = 0; repaired = n; lost = false }) none)

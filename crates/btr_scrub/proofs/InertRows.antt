@@ -1,21 +1,17 @@
 -- A full stripe that holds nothing but plain sectors, in a chunk no image of which is in doubt: nothing is written there, and nothing counted.
-use Rattle.std.proofs.Common.{◌≡◌, ℕ, Bool, true, false, not, cond, ◌&&◌, ◌||◌, List, [], ◌∷◌, ◌++◌, length, map, nat_lt, None, IsNone, is_some, Ok, refl, sym}
-use Rattle.std.proofs.Common.{ap, ◌∙◌, subst, inl, inr}
-use Rattle.btr_scrub.proofs.Common.{Images, IsSought, IsTable, Layout, MendedRow, Part, Row, Target, Want, accepted, all_at, bad_parts, copy_writes}
-use Rattle.btr_scrub.proofs.Common.{filter_map, fresh, has_doubtful, is_checked, is_lost_block, is_on_behind, is_plain, list_any, mended_row, mending_writes}
-use Rattle.btr_scrub.proofs.Common.{mirrors, new_bytes, option_map_or, parities, parity_writes, place_at, range_with_len, renewed, row_writes, sought}
-use Rattle.btr_scrub.proofs.Common.{stale_parts, untouched, wrong_parts}
+use Rattle.std.proofs.Common.{◌≡◌, ℕ, Bool, true, false, not, cond, ◌&&◌, ◌||◌, List, [], ◌∷◌, length, map, None, IsNone, Ok, refl, sym, ap, ◌∙◌, subst, inl}
+use Rattle.std.proofs.Common.{inr, arith}
+use Rattle.btr_scrub.proofs.Common.{Images, In, IsSought, IsTable, Layout, Part, Row, Target, Want, all_at, filter_map, has_doubtful, is_checked, is_lost_block}
+use Rattle.btr_scrub.proofs.Common.{is_on_behind, is_plain, list_any, mended_row, mending_writes, mirrors, new_bytes, parities, parity_writes, place_at}
+use Rattle.btr_scrub.proofs.Common.{range_with_len, row_writes, sought, stale_parts, sum_by, untouched, wrong_parts}
 use Rattle.std.specs.List.{list_all}
 use Rattle.btr_chunk.specs.declared.place.Part.TheVariants.{Slice}
 use Rattle.btr_chunk.specs.declared.stripe.Stripe.{Stripe}
-use Rattle.btr_scrub_copies.specs.Blocks.{is_lost}
-use Rattle.btr_scrub_copies.specs.Fresh.{is_behind, is_doubtful, is_on_doubtful}
+use Rattle.btr_scrub_copies.specs.Fresh.{is_behind, is_doubtful}
 use Rattle.btr_scrub_copies.proofs.Freshness.{none_stale}
 use Rattle.btr_scrub_row.specs.Mending.{IsOn, IsRowOf, is_at}
-use Rattle.btr_scrub_row.specs.Rows.{differs, is_decided, is_sure, is_surer, meets, parities_writes}
-use Rattle.btr_scrub_row.specs.Rows.{sector_write}
+use Rattle.btr_scrub_row.specs.Rows.{differs, is_decided, is_sure, meets, sector_write}
 use Rattle.btr_scrub_row.proofs.Settled.{mending_is, own as own_are}
-use Rattle.btr_scrub.specs.BlocksInRows.{In}
 use Rattle.btr_scrub.specs.Rowing.{IsInert}
 use Rattle.btr_scrub.proofs.Lists.{flat_none}
 use Rattle.btr_scrub.proofs.Positions.{is_sought, on_stripe, position_is}
@@ -31,12 +27,7 @@ use Rattle.btr_scrub.proofs.Grouping.{filter_none}
 none_decided : (meets sure : Target → Bool) (ts : List Target) → ((t : Target) → In t ts → sure t ≡ false)
     → (list_any meets ts && list_all (λ t. not (meets t) || sure t) ts) ≡ false
 none_decided meets sure [] h = refl
-none_decided meets sure (t ∷ ts) h = by (meets t) (sure t) (h t (inl refl)) (none_decided meets sure ts (λ u i. h u (inr i)))
-  where
-    by : (m s : Bool) → s ≡ false → (list_any meets ts && list_all (λ t. not (meets t) || sure t) ts) ≡ false
-        → ((m || list_any meets ts) && ((not m || s) && list_all (λ t. not (meets t) || sure t) ts)) ≡ false
-    by true s e rest = ap (λ s. s && list_all (λ t. not (meets t) || sure t) ts) e
-    by false s e rest = rest
+none_decided meets sure (t ∷ ts) h = grind (arith, h t (inl refl), none_decided meets sure ts (λ u i. h u (inr i)))
 
 -- each block of a row is one of its wants, and has a position
 pub sought_of_row : (layout : Layout) (wants : List Want) (ts : List Target) → map (sought layout) wants ≡ map is_at ts → (t : Target) → In t ts
@@ -64,27 +55,20 @@ module _ (layout : Layout) (table : IsTable layout.chunks) (row : Row) (lie : (t
   -- ---- one sector
 
   module _ (t : Target) (i : In t row.blocks) where
-    -- its position is that of its address
-    is : IsSought layout t
-    is = (lie t i).0
-
     -- the block is a sector without a checksum
     plain : is_plain t.want ≡ true
     plain = all_at (λ t. is_plain t.want ≡ true) row.blocks t inert.plain i
 
-    -- it lies in the row's chunk
-    mine : t.chunk ≡ row.chunk
-    mine = (lie t i).1
-
-    -- which has no copies
+    -- its chunk has no copies
     none : mirrors t.chunk ≡ None
-    none = ap mirrors mine ∙ parity
+    none = ap mirrors (lie t i).1 ∙ parity
 
     -- its image isn't behind
     not_behind : is_on_behind row.failing t (Slice t.at.index) ≡ false
     not_behind =
+        let is = (lie t i).0 in
         let at = on_stripe layout t (Slice t.at.index) table is (subst IsNone (sym none) refl, (position_is layout t table is).index) in
-        let sure : has_doubtful layout.devices row.failing t.chunk ≡ false = ap (has_doubtful layout.devices row.failing) mine ∙ inert.sure in
+        let sure : has_doubtful layout.devices row.failing t.chunk ≡ false = ap (has_doubtful layout.devices row.failing) (lie t i).1 ∙ inert.sure in
         ap (λ ds. is_behind ds row.failing (place_at t.chunk (Slice t.at.index) t.at).devid) is.devices
         ∙ ap (is_behind layout.devices row.failing) at.devid
         ∙ sure_device row.failing layout.devices at.stripe.devid
@@ -98,61 +82,44 @@ module _ (layout : Layout) (table : IsTable layout.chunks) (row : Row) (lie : (t
 
       -- nor is it wrong
       none_wrong : wrong_parts images row.failing t ≡ []
-      none_wrong = ap (λ b. cond b (stale_parts images row.failing t) (bad_parts images t)) plain ∙ unstale
+      none_wrong = rw (plain, unstale)
 
       -- it gets no bytes
       none_given : new_bytes images row.failing t ≡ None
-      none_given = ap (λ b. cond b (renewed images row.failing t) (accepted images t)) plain
-          ∙ ap (λ ps. cond (nat_lt 0 (length ps)) (fresh images row.failing t) None) unstale
+      none_given = rw (plain, unstale)
 
       -- nothing is written for it
       none_written : mending_writes images row.failing t ≡ []
-      none_written = mending_is images row t
-          ∙ ap (λ o. option_map_or (λ bytes. copy_writes t bytes (wrong_parts images row.failing t)) o []) none_given
-
-      -- it has no test
-      unchecked : is_checked t ≡ false
-      unchecked = ap not plain
-
-      -- so it isn't lost
-      unlost : is_lost_block images t ≡ false
-      unlost = ap (λ b. b && is_lost images t) unchecked
+      none_written = mending_is images row t ∙ rw none_given
 
       -- it isn't sure what it should have
       unsure : is_sure images layout row t ≡ false
-      unsure = ap (λ o. is_some o || is_plain t.want && is_surer images layout row t) none_given
-          ∙ ap (λ b. b && is_surer images layout row t) plain
-          ∙ ap (λ b. b && not (is_on_doubtful row.failing t (Slice t.at.index))) inert.sure
+      unsure = rw (none_given, plain, inert.sure)
 
   -- ---- the row
 
   module _ (images : Images) where
-    -- so no column is decided
-    undecided : (column : ℕ) → is_decided images layout row column ≡ false
-    undecided column = none_decided (meets column) (is_sure images layout row) row.blocks (λ t i. unsure t i images)
-
-    -- and nothing is written of a parity
+    -- so no column is decided, and nothing is written of a parity
     none_parity : (q : Part) → parity_writes images layout row q ≡ []
     none_parity q = ap (filter_map (sector_write images layout row q))
         (filter_none (λ column. is_decided images layout row column && differs images layout row q column) (range_with_len 0 16)
-        (λ column i. ap (λ b. b && differs images layout row q column) (undecided column)))
+        (λ column i. ap (λ b. b && differs images layout row q column)
+        (none_decided (meets column) (is_sure images layout row) row.blocks (λ t i. unsure t i images))))
 
     -- nothing is written in it
     pub inert_writes : row_writes images layout row ≡ []
-    inert_writes =
-        ap (λ ws. ws ++ parities_writes images layout row) (flat_none (mending_writes images row.failing) row.blocks (λ t i. none_written t i images))
-        ∙ flat_none (parity_writes images layout row) (parities row.chunk.profile) (λ q i. none_parity q)
+    inert_writes = rw (
+      flat_none (mending_writes images row.failing) row.blocks (λ t i. none_written t i images),
+      flat_none (parity_writes images layout row) (parities row.chunk.profile) (λ q i. none_parity q),
+    )
 
     -- nothing is counted for it
     pub inert_counts : (write : Bool) → mended_row images layout row write ≡ untouched
     inert_counts write =
-        let blocks = sum_zero (λ t. cond (is_checked t) 1 0) row.blocks (λ t i. ap (λ b. cond b 1 0) (unchecked t i images)) in
+        let blocks = sum_zero (λ t. cond (is_checked t) 1 0) row.blocks (λ t i. rw (plain t i)) in
         let bad = sum_zero (λ t. length (wrong_parts images row.failing t)) row.blocks (λ t i. ap length (none_wrong t i images)) in
         let repaired = sum_zero (λ t. length (mending_writes images row.failing t)) row.blocks (λ t i. ap length (none_written t i images)) in
-        let lost = sum_zero (λ t. cond (is_lost_block images t) 1 0) row.blocks (λ t i. ap (λ b. cond b 1 0) (unlost t i images)) in
+        let lost = sum_zero (λ t. cond (is_lost_block images t) 1 0) row.blocks (λ t i. rw (plain t i)) in
         let parity = sum_zero (λ q. length (parity_writes images layout row q)) (parities row.chunk.profile) (λ q i. ap length (none_parity q)) in
-        (λ i. record { blocks = blocks i; bad = bad i; repaired = cond write (repaired i) 0; lost = lost i; parity = parity i }) ∙ by write
-      where
-        by : (b : Bool) → ◌≡◌ {A = MendedRow} (record { blocks = 0; bad = 0; repaired = cond b 0 0; lost = 0; parity = 0 }) untouched
-        by true = refl
-        by false = refl
+        let none : cond write (sum_by (λ t. length (mending_writes images row.failing t)) row.blocks) 0 ≡ 0 = grind (arith, repaired) in
+        λ i. record { blocks = blocks i; bad = bad i; repaired = none i; lost = lost i; parity = parity i }

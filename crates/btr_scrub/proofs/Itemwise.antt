@@ -2,8 +2,7 @@
 use Rattle.std.proofs.Common.{◌≡◌, List, [], ◌∷◌, ◌++◌, Bool, Some, Result, Ok, Err, refl, sym, ap, ◌∙◌, append_assoc, append-nil}
 use Rattle.std.proofs.lemmas.Grind.{flat_map-append}
 use Rattle.std.proofs.lemmas.List.Sums.{fold-append}
-use Rattle.btr_scrub.proofs.Common.{Images, Layout, MendFault, Scrubs, Seen, Tally, Write, flat_map}
-use Rattle.std.specs.List.{fold}
+use Rattle.btr_scrub.proofs.Common.{Images, Layout, MendFault, Scrubs, Seen, Tally, Write, flat_map, fold}
 use Rattle.btr_scrub.proofs.Scrubbing.{IsUnmoved, scrubs_as, scrubs_cut, scrubs_then}
 
 -- Works can be said otherwise, one goes on behind another that leaves what it does, and one that came to a halt was cut short before others.

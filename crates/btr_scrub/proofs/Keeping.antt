@@ -1,15 +1,14 @@
 -- Wherever the mending of a full stripe is cut short, its blocks can be had.
 use Rattle.std.proofs.Common.{◌≡◌, ◌⊎◌, ℕ, ◌+◌, ◌-◌, ◌*◌, ◌<◌, ◌≤◌, Bool, true, false, not, cond, ◌&&◌, List, [], ◌∷◌, length, get_or, slice_range, slice_get}
 use Rattle.std.proofs.Common.{All, Option, Some, None, IsSome, is_some, IsNone, IsSomeAnd, refl, sym, ap, ◌∙◌, subst, inl, inr, arith}
-use Rattle.btr_scrub.proofs.Common.{Candidate, Chunk, Failing, HaveLengths, Images, IsInRow, IsOfElement, KeepsOutside, Layout, LiesInRow, P, Q, Read, Row}
-use Rattle.btr_scrub.proofs.Common.{Target, Want, Write, accepted, addr_of, bad_parts, block_writes, candidates, cons_option, copy_writes, data_count}
-use Rattle.btr_scrub.proofs.Common.{false_from_ne_true, false≢true, fresh_writes, image_of, is_good, is_in_row, is_plain, length-pasted, list_any}
-use Rattle.btr_scrub.proofs.Common.{mending_writes, option_map, option_map_or, parities, parity_writes, parts_read, passes, passing_filter, pasted, range_in}
-use Rattle.btr_scrub.proofs.Common.{range_in_element, range_of, same_Some, size_of, slice_count, stands, stripe_length, targets, value_of, write_on}
-use Rattle.std.specs.List.{Contains, fold}
+use Rattle.btr_scrub.proofs.Common.{Candidate, Chunk, Failing, HaveLengths, Images, In, IsInRow, IsOfElement, KeepsOutside, Layout, LiesInRow, P, Q, Range}
+use Rattle.btr_scrub.proofs.Common.{Read, Row, Target, Want, Write, accepted, addr_of, bad_parts, block_writes, bytes_of, candidates, cons_option, copy_writes}
+use Rattle.btr_scrub.proofs.Common.{covers, data_count, false_from_ne_true, false≢true, fold, fresh_writes, image_of, is_good, is_in_row, is_plain}
+use Rattle.btr_scrub.proofs.Common.{length-pasted, list_any, mending_writes, option_map, option_map_or, parities, parity_writes, parts_read, passes}
+use Rattle.btr_scrub.proofs.Common.{passing_filter, pasted, range_in, range_in_element, range_of, same_Some, size_of, slice_count, stands, stripe_length}
+use Rattle.btr_scrub.proofs.Common.{targets, value_of, write_on}
+use Rattle.std.specs.List.{Contains}
 use Rattle.btr_chunk.specs.declared.place.Part.TheVariants.{Slice}
-use Rattle.btr_rack.specs.Rack.{bytes_of}
-use Rattle.btr_rack.specs.declared.place.Place.{Place as Range}
 use Rattle.btr_read.specs.Candidates.{element}
 use Rattle.btr_read.specs.Candidates as read
 use Rattle.btr_read.specs.Fate.{passing}
@@ -20,9 +19,8 @@ use Rattle.btr_scrub_row.specs.Rows.{parities_writes, rebuilt_writes}
 use Rattle.btr_scrub_row.proofs.Settled.{bad_are, written_at}
 use Rattle.btr_scrub.proofs.OwnPlaces.{wrong_own, own_slice, over_byte}
 use Rattle.btr_scrub_row.proofs.Pasted.{at_range, pasted-within, range_pasted}
-use Rattle.btr_scrub.specs.BlocksInRows.{In}
 use Rattle.btr_scrub.specs.Keeping.{FillsPlace, FirstTurnKeepsBlocks, HasWayBeside, IsHad, IsRowAmong, SecondTurnKeepsBlocks, Withstands}
-use Rattle.btr_scrub.specs.Repair.{byte_at, covers}
+use Rattle.btr_scrub.specs.Repair.{byte_at}
 use Rattle.btr_scrub.proofs.AcrossChunks.{OfRows, row_is}
 use Rattle.btr_scrub.proofs.Columns.{own_candidate, same_index}
 use Rattle.btr_scrub.proofs.CopyWrites.{element_is, is_there, long_element, same_element}
@@ -41,14 +39,10 @@ use Rattle.btr_scrub.proofs.RowNumbers.{IsWholeChunk}
 
 -- ---- images that differ in ranges
 
--- what some ranges cover more ranges do
-covers_more : (slot off : ℕ) (rs qs : List Range) → AreAmong rs qs → list_any (covers slot off) rs ≡ true → list_any (covers slot off) qs ≡ true
-covers_more slot off rs qs among h = let a = any_is (covers slot off) rs h in is_any (covers slot off) a.0 qs (among a.0 a.1) a.2
-
 -- what no range covers fewer don't
 none_fewer : (slot off : ℕ) (rs qs : List Range) → AreAmong rs qs → list_any (covers slot off) qs ≡ false → list_any (covers slot off) rs ≡ false
 none_fewer slot off rs qs among none = false_from_ne_true (list_any (covers slot off) rs) (λ e.
-    absurd (false≢true (sym none ∙ covers_more slot off rs qs among e)))
+    let a = any_is (covers slot off) rs e in absurd (false≢true (sym none ∙ is_any (covers slot off) a.0 qs (among a.0 a.1) a.2)))
 
 -- images that differ in some ranges, and then again
 keeps_then : (rs qs : List Range) (a b c : Images) → AreAmong qs rs → KeepsOutside rs a b → KeepsOutside qs b c → KeepsOutside rs a c
@@ -57,10 +51,6 @@ keeps_then rs qs a b c among one two = record {
   lengths = λ slot. two.lengths slot ∙ one.lengths slot;
   bytes = λ slot off none. two.bytes slot off (none_fewer slot off qs rs among none) ∙ one.bytes slot off none;
 }
-
--- images keep their lengths
-lengths_after : (layout : Layout) (rs : List Range) (a b : Images) → KeepsOutside rs a b → HaveLengths a layout → HaveLengths b layout
-lengths_after layout rs a b keeps have devid device e = keeps.lengths device.slot ∙ have devid device e
 
 -- writes that fit fit images of the same lengths
 short_after : (images now : Images) (ws : List Write) → ((slot : ℕ) → length (image_of now slot) ≡ length (image_of images slot))
@@ -156,10 +146,6 @@ module _ (images : Images) (layout : Layout) (wants : List Want) (row : Row) (he
     -- its own place
     abbrev place : Range
     place = range_in own.slot (own.off + t.at.rest) (size_of t)
-
-    -- that is the range of its slice
-    place_is : range_of t (Slice t.at.index) ≡ Some place
-    place_is = own.block
 
     -- so it stands
     own_stands : IsSome (range_of t (Slice t.at.index))
@@ -310,12 +296,7 @@ module _ (images : Images) (layout : Layout) (wants : List Want) (row : Row) (he
             let on = is_any (covers slot (off + k)) v.range (ranges_of (mending_writes images row.failing u.0))
             (in_map (λ (w : Write). w.range) v (mending_writes images row.failing u.0) u.2) c in
             let same = shared t u.0 i u.1 slot (off + k) there (written_there u.0 u.1 slot (off + k) on) in
-            sole (subst (In v) one (subst (λ u. In v (mending_writes images row.failing u)) (sym same) u.2))
-          where
-            -- a list of one write has no other
-            sole : In v (written_at (place t i) f.bytes ∷ []) → v ≡ written_at (place t i) f.bytes
-            sole (inl e) = sym e
-            sole (inr h) = absurd h
+            elim (subst (In v) one (subst (λ u. In v (mending_writes images row.failing u)) (sym same) u.2)) [ inl e ↦ sym e | inr none ↦ absurd none ]
 
         by : ((mending_writes images row.failing t ≡ []) × (f.bytes ≡ element images t (Slice t.at.index)))
             ⊎ (mending_writes images row.failing t ≡ written_at (place t i) f.bytes ∷ []) → byte_at after slot (off + k) ≡ get_or f.bytes k 0
@@ -344,6 +325,14 @@ module _ (images : Images) (layout : Layout) (wants : List Want) (row : Row) (he
         ∙ sym (pasted-within image off f.bytes fits k 0 from to))
         ∙ range_pasted image off f.bytes fits
 
+  -- where no range covers its place, its element stays
+  stays_there : (a b : Images) (ranges : List Range) (t : Target) (i : In t row.blocks) → HaveLengths a layout → KeepsOutside ranges a b
+      → ((slot off : ℕ) → covers slot off (place t i) ≡ true → list_any (covers slot off) ranges ≡ true → ⊥)
+      → element b t (Slice t.at.index) ≡ element a t (Slice t.at.index)
+  stays_there a b ranges t i lengths keeps none =
+      same_element a b layout ranges t (Slice t.at.index) lengths (block t i).is keeps
+      (λ slot off c. false_from_ne_true (list_any (covers slot off) ranges) (λ e. absurd (none slot off (rw (own t i).block at c) e)))
+
   -- ---- the first turn
 
   -- what stands at the place of a checked block that passes there stays
@@ -351,19 +340,9 @@ module _ (images : Images) (layout : Layout) (wants : List Want) (row : Row) (he
       → KeepsOutside (ranges_of (rebuilt_writes images layout row)) images stored
       → is_good images t (Slice t.at.index) ≡ true → is_good stored t (Slice t.at.index) ≡ true
   good_stays stored t i checked keeps good =
-      ap (passes t.setting t.want) (same_element images stored layout (ranges_of (rebuilt_writes images layout row)) t (Slice t.at.index) here.lengths
-      (block t i).is keeps free) ∙ good
-    where
-      -- no write for the row's blocks covers a byte of it
-      none_there : (slot off : ℕ) → covers slot off (place t i) ≡ true → list_any (covers slot off) (ranges_of (rebuilt_writes images layout row)) ≡ true → ⊥
-      none_there slot off c h = false≢true (subst (λ ws. list_any (covers slot off) (ranges_of ws) ≡ true) (good_unwritten t i checked good)
-          (written_for t i slot off c h))
-
-      -- so its place is free of them
-      free : (slot off : ℕ) → IsSomeAnd (range_of t (Slice t.at.index)) (λ range. covers slot off range ≡ true)
-          → list_any (covers slot off) (ranges_of (rebuilt_writes images layout row)) ≡ false
-      free slot off c = false_from_ne_true (list_any (covers slot off) (ranges_of (rebuilt_writes images layout row))) (λ e.
-          absurd (none_there slot off (subst (λ o. IsSomeAnd o (λ range. covers slot off range ≡ true)) (own t i).block c) e))
+      ap (passes t.setting t.want) (stays_there images stored (ranges_of (rebuilt_writes images layout row)) t i here.lengths keeps
+      (λ slot off c h. false≢true (subst (λ ws. list_any (covers slot off) (ranges_of ws) ≡ true) (good_unwritten t i checked good)
+      (written_for t i slot off c h)))) ∙ good
 
   -- a way beside the writes gives the same
   way_stays : (stored : Images) (t : Target) (i : In t row.blocks) (h : HasWayBeside images layout row t)
@@ -423,17 +402,8 @@ module _ (images : Images) (layout : Layout) (wants : List Want) (row : Row) (he
       let short = short_after images after (parities_writes images layout row) rebuilt_keeps.lengths parities_short in
       let all = keeps_then (ranges_of (parities_writes images layout row)) waits after left stored among
       (stopped_keeps after left (parities_writes images layout row) short stopped) keeps in
-      ap (passes t.setting t.want)
-      (same_element after stored layout (ranges_of (parities_writes images layout row)) t (Slice t.at.index)
-      (lengths_after layout (ranges_of (rebuilt_writes images layout row)) images after rebuilt_keeps here.lengths) (block t i).is all free
-      ∙ element_after t i f)
-      ∙ f.pass
-    where
-      -- no write for a parity covers its place
-      free : (slot off : ℕ) → IsSomeAnd (range_of t (Slice t.at.index)) (λ range. covers slot off range ≡ true)
-          → list_any (covers slot off) (ranges_of (parities_writes images layout row)) ≡ false
-      free slot off c = false_from_ne_true (list_any (covers slot off) (ranges_of (parities_writes images layout row))) (λ e.
-          absurd (apart_from_parities t i slot off (subst (λ o. IsSomeAnd o (λ range. covers slot off range ≡ true)) (place_is t i) c) e))
+      ap (passes t.setting t.want) (stays_there after stored (ranges_of (parities_writes images layout row)) t i
+      (λ devid device e. rebuilt_keeps.lengths device.slot ∙ here.lengths devid device e) all (apart_from_parities t i) ∙ element_after t i f) ∙ f.pass
 
   -- so each block can be had that could be
   second_keeps : (left stored : Images) (waits : List Range) (t : Target) → IsStopped (parities_writes images layout row) after left

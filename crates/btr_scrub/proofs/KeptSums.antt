@@ -1,16 +1,15 @@
 -- Sectors whose checksums are kept are listed at once.
-use Rattle.std.proofs.Common.{◌≡◌, ℕ, zero, suc, ◌+◌, ◌-◌, ◌*◌, ◌/◌, ◌<◌, Bool, true, false, cond, List, [], ◌∷◌, ◌++◌, drop, length, Option, Some}
-use Rattle.btr_scrub.proofs.Common.{AddsTo, Follows, Gathered, Gathers, IsList, Lists, OnlyReads, Return, SameVolume, Scene, Sector, Seen, Serves, Sum}
-use Rattle.btr_scrub.proofs.Common.{SumKind, Super, Tells, TreeRoot, Volume, cases_lt, drawn, exec, kind_in, no_part, scene, sector, sector_met, sectors}
-use Rattle.btr_scrub.proofs.Common.{stored_sum, sum_at, sum_size, unread_by}
-use Rattle.std.proofs.Common.{None, Result, Ok, Err, sym, ap, ◌∙◌, subst, arith, inl, inr}
+use Rattle.std.proofs.Common.{◌≡◌, ℕ, zero, suc, ◌+◌, ◌-◌, ◌*◌, ◌/◌, ◌<◌, Bool, true, false, cond, List, [], ◌∷◌, ◌++◌, drop, length, Option, Some, None}
+use Rattle.std.proofs.Common.{Result, Ok, Err, sym, ap, ◌∙◌, subst, arith, inl, inr}
+use Rattle.btr_scrub.proofs.Common.{AddsTo, Gathered, Gathers, Lists, OnlyReads, Return, SameVolume, Scene, Sector, Seen, Serves, Sum, SumKind, Super, Tells}
+use Rattle.btr_scrub.proofs.Common.{TreeRoot, Volume, cases_lt, exec, kind_in, scene, sector, sector_met, sectors, stored_sum, sum_at, sum_size, unread_by}
 use Rattle.btr_volume.specs.declared.stop.Stop.{Stop as TheStop}
 use Rattle.btr_files.specs.Aheads.{IsSummed, kept_sum}
 use Rattle.btr_files.specs.Sums.{covers}
 use Rattle.btr_files.specs.declared.sums_ahead.SumsAhead.{SumsAhead}
 use Rattle.btr_scrub.specs.Gathering.{GathersSome, IsSumKept, ListsKept, sectors_met}
 use Rattle.btr_scrub.proofs.Gaps.{follows_sectors}
-use Rattle.btr_scrub.proofs.Gathering.{gathers_then, lists_added, lists_none, lists_then}
+use Rattle.btr_scrub.proofs.Gathering.{gathers_then, gathers_told, lists_added, lists_then}
 use Rattle.btr_scrub.proofs.OneSector.{again}
 
 -- a checksum that is kept is the same when it is stored again
@@ -35,10 +34,6 @@ sectors_more found (suc n) addr =
     let all : suc n + 1 ≡ suc (n + 1) = omega arith in
     ap (λ k. sectors_met found k addr) all ∙ ap (λ met. sector_met addr (found addr) ∷ met) (sectors_more found n (addr + 4096)
     ∙ ap (λ a. sectors_met found n (addr + 4096) ++ sector_met a (found a) ∷ []) behind)
-
--- none was listed yet
-pub kept_none : (addr most : ℕ) (ahead : SumsAhead) (x : Gathered) → IsList x.list → ListsKept addr most ahead x x 0
-kept_none addr most ahead x is = record { few = omega arith; kept = λ i lt. absurd (omega (arith, lt)); lists = lists_none x is }
 
 -- one more was
 pub kept_more : (addr most : ℕ) (ahead : SumsAhead) (x y z : Gathered) (n : ℕ) (sum : Sum) → n < most → ListsKept addr most ahead x y n
@@ -67,22 +62,12 @@ pub gathers_kept : (s : Super) (sums : Option TreeRoot) (addr most n : ℕ) (old
     → Tells vol.store.layout old new (λ B. IsSummed B sums none → IsSummed B sums ahead) → ListsKept addr most ahead x y n
     → Gathers (sectors s sums n addr) (scene old vol x) (scene new vol' y) (Ok tt)
 gathers_kept s sums addr most n old new vol vol' x y none ahead serves reads same kind empty told h =
-    let layout = vol.store.layout in
-    record {
-      reads = reads;
-      volume = same;
-      serves = serves;
-      done = sectors_met (kept_sum ahead) n addr;
-      lists = h.lists;
-      content = drawn layout (λ B. IsSummed B sums none → IsSummed B sums ahead)
-          (λ B. Follows (unread_by layout old new) no_part [] (exec B (sectors s sums n addr)) (sectors_met (kept_sum ahead) n addr) (Ok tt))
-          (λ B keeps. follows_sectors (unread_by layout old new) B s sums (kept_sum ahead) n addr (λ i lt.
-          let k = h.kept i lt in
-          let summed : IsSummed B sums ahead = keeps (λ other sum is. absurd (cc (sym (empty other) ∙ is))) in
-          subst (λ (q : SumKind). (exec B (sum_at q sums (addr + i * 4096))).ending ≡ Ok (Some k.sum)) (k.of_kind ∙ kind)
-          (summed (addr + i * 4096) k.sum k.kept) ∙ ap Ok (sym k.kept))) told;
-      cause = tt;
-    }
+    gathers_told (sectors s sums n addr) (λ B. IsSummed B sums none → IsSummed B sums ahead) old new vol vol' x y (sectors_met (kept_sum ahead) n addr)
+    (Ok tt) serves reads same h.lists (λ B keeps. follows_sectors (unread_by vol.store.layout old new) B s sums (kept_sum ahead) n addr (λ i lt.
+    let k = h.kept i lt in
+    let summed : IsSummed B sums ahead = keeps (λ other sum is. absurd (cc (sym (empty other) ∙ is))) in
+    subst (λ (q : SumKind). (exec B (sum_at q sums (addr + i * 4096))).ending ≡ Ok (Some k.sum)) (k.of_kind ∙ kind)
+    (summed (addr + i * 4096) k.sum k.kept) ∙ ap Ok (sym k.kept))) told tt
 
 -- some were listed behind calls by which nothing was
 pub some_behind : (s : Super) (sums : Option TreeRoot) (addr most : ℕ) (x y z : Scene) (r : Result ℕ TheStop) → Gathers {A = Unit {0}} (Return tt) x y (Ok tt)

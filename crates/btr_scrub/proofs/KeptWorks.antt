@@ -60,15 +60,8 @@ counts_stand done = unchecked_among done 0
 module _ (s : Super) (layout : Layout) (write : Bool) (a b : Seen) where
   -- where the blocks couldn't be listed and sifted, scrub ends with the same stop
   pub scrubs_stopped : (why : Stop) → OnlyReads a b → SiftsUnits (units_in s layout.chunks) layout a b (Err why) → ScrubsAll s layout write a b (Err why)
-  scrubs_stopped (stop.NoTree id) reads k = record { mid = b; reads = reads; done = k.0; listing = Stopped (stop.NoTree id); goes = (refl, refl, k.1, k.2) }
-  scrubs_stopped (stop.Tree f) reads k = record { mid = b; reads = reads; done = k.0; listing = Stopped (stop.Tree f); goes = (refl, refl, k.1, k.2) }
-  scrubs_stopped (stop.Deletion id) reads k = record { mid = b; reads = reads; done = k.0; listing = Stopped (stop.Deletion id); goes = (refl, refl, k.1, k.2) }
-  scrubs_stopped stop.Balance reads k = record { mid = b; reads = reads; done = k.0; listing = Stopped stop.Balance; goes = (refl, refl, k.1, k.2) }
-  scrubs_stopped (stop.Missing id) reads k = record { mid = b; reads = reads; done = k.0; listing = Stopped (stop.Missing id); goes = (refl, refl, k.1, k.2) }
   scrubs_stopped (stop.Image slot) reads k = record { mid = k.mid; reads = k.before; done = []; listing = Failed slot; goes = (refl, k.reads, k.failed) }
-  scrubs_stopped stop.Sink reads k = record { mid = b; reads = reads; done = k.0; listing = Stopped stop.Sink; goes = (refl, refl, k.1, k.2) }
-  scrubs_stopped stop.Out reads k = record { mid = b; reads = reads; done = k.0; listing = Stopped stop.Out; goes = (refl, refl, k.1, k.2) }
-  scrubs_stopped stop.Memory reads k = record { mid = b; reads = reads; done = k.0; listing = Stopped stop.Memory; goes = (refl, refl, k.1, k.2) }
+  scrubs_stopped why reads k = record { mid = b; reads = reads; done = k.0; listing = Stopped why; goes = (refl, refl, k.1, k.2) }
 
 -- no memory was had before the first call
 pub scrubs_memory : (s : Super) (layout : Layout) (write : Bool) (a : Seen) → ScrubsAll s layout write a a (Err stop.Memory)

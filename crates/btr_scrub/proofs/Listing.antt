@@ -1,20 +1,22 @@
 -- Lists of blocks.
-use Rattle.std.proofs.Common.{◌≡◌, ℕ, zero, suc, ◌+◌, ◌-◌, ◌*◌, ◌^◌, ◌<◌, ◌≤◌, List, [], ◌∷◌, ◌++◌, length, take, drop, Option, Some, None, Result, Ok, Err}
-use Rattle.std.proofs.Common.{OnOk, IsSomeAnd, refl, sym, ap, ◌∙◌, subst, arith, append_assoc, append-nil, length-append}
-use Rattle.std.proofs.Math.Nat.{suc-mul}
-use Rattle.btr_scrub.proofs.Common.{AddsAll, AddsTo, IsList, KeptBlocks, Plain, Sector, SumKind, kept_wants, length-drop, plains_from, stored_sum, sum_size}
+use Rattle.std.proofs.lemmas.Nat.{mul-le}
+use Rattle.std.proofs.Common.{◌≡◌, ℕ, zero, suc, ◌+◌, ◌*◌, ◌^◌, ◌<◌, ◌≤◌, List, [], ◌∷◌, ◌++◌, length, take, drop, Option, Some, None, Result, OnOk, IsSomeAnd}
+use Rattle.std.proofs.Common.{refl, sym, ap, ◌∙◌, subst, arith, append_assoc, append-nil, length-append}
+use Rattle.std.proofs.Math.Nat.{add-mul, suc-mul}
+use Rattle.std.proofs.lemmas.Result.{on_ok_weaker}
+use Rattle.btr_scrub.proofs.Common.{AddsAll, AddsTo, IsList, KeptBlocks, Plain, Sector, SumKind, Want, kept_wants, length-drop, plains_from, stored_sum}
+use Rattle.btr_scrub.proofs.Common.{sum_size}
 use Rattle.std.proofs.lemmas.List.{drop-append-le, length-take-le, nil_from_length, take-append-drop, take-append-le, take-take}
 use Rattle.btr_base.specs.Sum.{sum_from}
 use Rattle.std.specs.Option.{option_to_list}
-use Rattle.btr_base.specs.declared.kind.SumKind.TheVariants.{Crc32c, Sha256, Xxh64}
+use Rattle.btr_base.specs.declared.kind.SumKind.TheVariants.{Crc32c}
 use Rattle.btr_read.specs.declared.want.Want.TheVariants.{Tree}
 use Rattle.btr_scrub.specs.declared.run.Run.{Run}
 use Rattle.btr_scrub.specs.declared.run.RunKind.{RunKind}
 use Rattle.btr_scrub.specs.declared.run.RunKind.TheVariants.{TreeBlock, Sectors, Unsummed}
 use Rattle.btr_scrub.specs.declared.run.TreeMark.{TreeMark}
-use Rattle.btr_scrub.specs.Listed.{AreRuns, Begins, Extends, FewBytes, IsRun, Lengthens, all_plains, all_sectors}
-use Rattle.btr_scrub.specs.Listed.{all_trees}
-use Rattle.btr_scrub.specs.Listed.{plains_of, run_wants, sectors_from, sectors_of, tree_from, trees_of, wants_of}
+use Rattle.btr_scrub.specs.Listed.{AreRuns, Begins, Extends, FewBytes, IsRun, Lengthens, all_plains, all_sectors, all_trees, plains_of, run_wants, sectors_from}
+use Rattle.btr_scrub.specs.Listed.{sectors_of, tree_from, trees_of, wants_of}
 
 -- the counts of runs one behind another
 pub sectors_both : (runs more : List Run) → all_sectors (runs ++ more) ≡ all_sectors runs + all_sectors more
@@ -40,13 +42,7 @@ plains_both (suc n) more addr =
 
 -- a product of a sum
 pub times_sum : (a b z : ℕ) → (a + b) * z ≡ a * z + b * z
-times_sum zero b z = let h : 0 + b ≡ b = omega arith in ap (λ n. n * z) h ∙ omega arith
-times_sum (suc a) b z =
-    let h : suc a + b ≡ suc (a + b) = omega arith in
-    let one = suc-mul (a + b) z in
-    let two = suc-mul a z in
-    let three = times_sum a b z in
-    ap (λ n. n * z) h ∙ omega (arith, one, two, three)
+times_sum a b z = add-mul a b z
 
 -- the block of a mark is the same with other marks behind it
 tree_longer : (addr : ℕ) (ms ts : List TreeMark) → 1 ≤ length ms → tree_from addr (ms ++ ts) ≡ tree_from addr ms
@@ -129,238 +125,123 @@ abbrev pub made : SumKind → List Run → List ℕ → List TreeMark → KeptBl
 made kind runs sums marks = record { kind = kind; runs = runs; sums = sums; marks = marks }
 
 -- lists with the same parts are the same
-pub same_kept : (new : KeptBlocks) (kind : SumKind) (runs : List Run) (sums : List ℕ) (marks : List TreeMark) → new.kind ≡ kind → new.runs ≡ runs → new.sums
+same_kept : (new : KeptBlocks) (kind : SumKind) (runs : List Run) (sums : List ℕ) (marks : List TreeMark) → new.kind ≡ kind → new.runs ≡ runs → new.sums
     ≡ sums → new.marks ≡ marks → new ≡ made kind runs sums marks
 same_kept new kind runs sums marks a b c d =
     ap (λ k. made k new.runs new.sums new.marks) a ∙ ap (λ r. made kind r new.sums new.marks) b ∙ ap (λ s. made kind runs s new.marks) c
     ∙ ap (λ m. made kind runs sums m) d
 
 -- runs one behind another
-pub runs_both : (runs more : List Run) → AreRuns runs → AreRuns more → AreRuns (runs ++ more)
+runs_both : (runs more : List Run) → AreRuns runs → AreRuns more → AreRuns (runs ++ more)
 runs_both [] more h g = g
 runs_both (run ∷ runs) more h g = (h.0, runs_both runs more h.1 g)
 
 -- the first of runs that keep their form keep it
-pub runs_before : (runs more : List Run) → AreRuns (runs ++ more) → AreRuns runs
+runs_before : (runs more : List Run) → AreRuns (runs ++ more) → AreRuns runs
 runs_before [] more h = tt
 runs_before (run ∷ runs) more h = (h.0, runs_before runs more h.1)
 
 -- a checksum has at most 32 bytes
 pub size_few : (kind : SumKind) → sum_size kind ≤ 32
 size_few Crc32c = omega arith
-size_few Sha256 = omega arith
-size_few Xxh64 = omega arith
+size_few kind = omega arith
 
--- what holds where a call went well may be made less
-on_ok : {E : Type 0} {P Q : Type 0} (result : Result (Unit {0}) E) → (P → Q) → OnOk result P → OnOk result Q
-on_ok (Ok u) f h = f h
-on_ok (Err e) f h = tt
+-- a list of the blocks of two
+abbrev pub both : KeptBlocks → KeptBlocks → KeptBlocks
+both whole more = made whole.kind (whole.runs ++ more.runs) (whole.sums ++ more.sums) (whole.marks ++ more.marks)
 
-module _ (old : KeptBlocks) (is : IsList old) where
-  -- a tree block behind the others
-  pub tree_added : (new : KeptBlocks) (addr generation level : ℕ) → new.kind ≡ old.kind → new.runs ≡ old.runs ++ record { addr = addr; kind = TreeBlock } ∷ []
-      → new.sums ≡ old.sums → new.marks ≡ old.marks ++ record { generation = generation; level = level } ∷ [] → AddsTo old new (Tree addr generation level)
-  tree_added new addr generation level k r s m =
-      let run : Run = record { addr = addr; kind = TreeBlock } in
-      let mark : TreeMark = record { generation = generation; level = level } in
-      let e = same_kept new old.kind (old.runs ++ run ∷ []) old.sums (old.marks ++ mark ∷ []) k r s m in
-      let count = sectors_both old.runs (run ∷ []) in
-      let trees = trees_both old.runs (run ∷ []) in
-      let marks = length-append old.marks (mark ∷ []) in
-      let none : all_sectors (old.runs ++ run ∷ []) ≡ all_sectors old.runs = omega (arith, count) in
-      subst (λ x. AddsTo old x (Tree addr generation level)) (sym e) (record {
-        is_list = record {
-          runs_fit = runs_both old.runs (run ∷ []) is.runs_fit (tt, tt);
-          sums_fit = is.sums_fit ∙ ap (λ n. n * sum_size old.kind) (sym none);
-          marks_fit = omega (arith, trees, marks, is.marks_fit);
-        };
-        kind = refl;
-        wants = ap (λ xs. wants_of old.kind (old.runs ++ run ∷ []) xs (old.marks ++ mark ∷ [])) (sym (append-nil old.sums))
-            ∙ wants_both old.kind old.runs (run ∷ []) old.sums [] old.marks (mark ∷ []) is.sums_fit is.marks_fit;
-      })
+-- the blocks of a list were put behind those of another
+pub adds_list : (whole more : KeptBlocks) → IsList whole → IsList more → more.kind ≡ whole.kind → AddsAll whole (both whole more) (kept_wants more)
+adds_list whole more is is_more same = record {
+  is_list = record {
+    runs_fit = runs_both whole.runs more.runs is.runs_fit is_more.runs_fit;
+    sums_fit =
+        length-append whole.sums more.sums
+        ∙ omega (
+          arith,
+          is.sums_fit,
+          subst (λ k. length more.sums ≡ all_sectors more.runs * sum_size k) same is_more.sums_fit,
+          times_sum (all_sectors whole.runs) (all_sectors more.runs) (sum_size whole.kind),
+        )
+        ∙ ap (λ n. n * sum_size whole.kind) (sym (sectors_both whole.runs more.runs));
+    marks_fit = omega (arith, length-append whole.marks more.marks, is.marks_fit, is_more.marks_fit, trees_both whole.runs more.runs);
+  };
+  kind = refl;
+  wants = wants_both whole.kind whole.runs more.runs whole.sums more.sums whole.marks more.marks is.sums_fit is.marks_fit
+      ∙ ap (λ k. kept_wants whole ++ wants_of k more.runs more.sums more.marks) (sym same);
+}
 
-  -- a sector behind the others, which begins a run
-  pub sector_added : (new : KeptBlocks) (addr : ℕ) (bytes : List ℕ) → addr < 2 ^ 64 → sum_size old.kind ≤ length bytes → new.kind ≡ old.kind
-      → new.runs ≡ old.runs ++ record { addr = addr; kind = Sectors 1 } ∷ [] → new.sums ≡ old.sums ++ take (sum_size old.kind) bytes → new.marks ≡ old.marks
-      → AddsTo old new (Sector addr (stored_sum old.kind bytes))
-  sector_added new addr bytes small many k r s m =
-      let run : Run = record { addr = addr; kind = Sectors 1 } in
-      let size = sum_size old.kind in
-      let sum = take size bytes in
-      let e = same_kept new old.kind (old.runs ++ run ∷ []) (old.sums ++ sum) old.marks k r s m in
-      let count : all_sectors (old.runs ++ run ∷ []) ≡ all_sectors old.runs + 1 = sectors_both old.runs (run ∷ []) in
-      let trees = trees_both old.runs (run ∷ []) in
-      let long = length-append old.sums sum in
-      let one = length-take-le size bytes many in
-      let all = times_sum (all_sectors old.runs) 1 size in
-      let fits : IsRun addr (Sectors 1) = (omega arith, omega (arith, small)) in
-      subst (λ x. AddsTo old x (Sector addr (stored_sum old.kind bytes))) (sym e) (record {
-        is_list = record {
-          runs_fit = runs_both old.runs (run ∷ []) is.runs_fit (fits, tt);
-          sums_fit = long ∙ omega (arith, is.sums_fit, one, all) ∙ ap (λ n. n * size) (sym count);
-          marks_fit = omega (arith, trees, is.marks_fit);
-        };
-        kind = refl;
-        wants = ap (λ ms. wants_of old.kind (old.runs ++ run ∷ []) (old.sums ++ sum) ms) (sym (append-nil old.marks))
-            ∙ wants_both old.kind old.runs (run ∷ []) old.sums sum old.marks [] is.sums_fit is.marks_fit
-            ∙ ap (λ b. wants_of old.kind old.runs old.sums old.marks ++ Sector addr (sum_from old.kind b) ∷ []) (take-take size size bytes (omega arith));
-      })
-
-  -- a sector behind the others, by which the last run is longer
-  pub sector_grown : (new : KeptBlocks) (before : List Run) (run longer : Run) (addr : ℕ) (bytes : List ℕ) → addr < 2 ^ 64
-      → sum_size old.kind ≤ length bytes → Lengthens run addr longer → old.runs ≡ before ++ run ∷ [] → new.kind ≡ old.kind → new.runs ≡ before
-      ++ longer ∷ [] → new.sums ≡ old.sums ++ take (sum_size old.kind) bytes → new.marks ≡ old.marks → AddsTo old new (Sector addr (stored_sum old.kind bytes))
-  sector_grown new before run longer addr bytes small many l b k r s m =
-      let size = sum_size old.kind in
-      let sum = take size bytes in
-      let one = length-take-le size bytes many in
-      let n = l.count in
-      let run_is : all_sectors (run ∷ []) ≡ n = ap (λ q. sectors_of q + 0) l.sectors ∙ omega arith in
-      let run_trees : all_trees (run ∷ []) ≡ 0 = ap (λ q. trees_of q + 0) l.sectors in
-      let m0 = all_sectors before * size in
-      let xs = take m0 old.sums in
-      let ys = drop m0 old.sums in
-      let split : old.sums ≡ xs ++ ys = sym (take-append-drop m0 old.sums) in
-      let count : all_sectors old.runs ≡ all_sectors before + n = ap all_sectors b ∙ sectors_both before (run ∷ []) ∙ ap (λ q. all_sectors before + q) run_is in
-      let times : all_sectors old.runs * size ≡ all_sectors before * size + n * size = ap (λ q. q * size) count ∙ times_sum (all_sectors before) n size in
-      let le : m0 ≤ length old.sums = omega (arith, is.sums_fit, times) in
-      let xlong : length xs ≡ all_sectors before * size = length-take-le m0 old.sums le in
-      let ydrop = length-drop m0 old.sums in
-      let ylong : length ys ≡ n * size = omega (arith, ydrop, is.sums_fit, times) in
-      let trees : all_trees old.runs ≡ all_trees before + 0 = ap all_trees b ∙ trees_both before (run ∷ []) ∙ ap (λ q. all_trees before + q) run_trees in
-      let mlong : length old.marks ≡ all_trees before = omega (arith, is.marks_fit, trees) in
-      let grown : Run = record { addr = run.addr; kind = Sectors (suc n) } in
-      let more : n + 1 ≡ suc n = omega arith in
-      let longer_is : longer ≡ grown = l.more ∙ ap (λ q. record { addr = run.addr; kind = Sectors q }) more in
-      let run_same : run ≡ record { addr = run.addr; kind = Sectors n } = ap (λ q. record { addr = run.addr; kind = q }) l.sectors in
-      let e = same_kept new old.kind (before ++ grown ∷ []) (xs ++ (ys ++ sum)) old.marks k (r ∙ ap (λ q. before ++ q ∷ []) longer_is)
-      (s ∙ ap (λ q. q ++ sum) split ∙ append_assoc xs ys sum) m in
-      let before_fit : AreRuns before = runs_before before (run ∷ []) (subst AreRuns b is.runs_fit) in
-      let last : run.addr + (suc n - 1) * 4096 ≡ addr = omega (arith, l.next) in
-      let fits : IsRun run.addr (Sectors (suc n)) = (omega arith, omega (arith, small, last)) in
-      let grown_count : all_sectors (before ++ grown ∷ []) ≡ all_sectors before + suc n = sectors_both before (grown ∷ []) ∙ omega arith in
-      let grown_times : all_sectors (before ++ grown ∷ []) * size ≡ all_sectors before * size + suc n * size =
-      ap (λ q. q * size) grown_count ∙ times_sum (all_sectors before) (suc n) size in
-      let step = suc-mul n size in
-      let long1 = length-append xs (ys ++ sum) in
-      let long2 = length-append ys sum in
-      let grown_trees = trees_both before (grown ∷ []) in
-      let old_is : kept_wants old ≡ wants_of old.kind before xs old.marks ++ sectors_from old.kind run.addr n ys =
-      ap (λ q. wants_of old.kind q old.sums old.marks) (b ∙ ap (λ q. before ++ q ∷ []) run_same)
-      ∙ ap (λ q. wants_of old.kind (before ++ record { addr = run.addr; kind = Sectors n } ∷ []) q old.marks) split
-      ∙ ap (λ q. wants_of old.kind (before ++ record { addr = run.addr; kind = Sectors n } ∷ []) (xs ++ ys) q) (sym (append-nil old.marks))
-      ∙ wants_both old.kind before (record { addr = run.addr; kind = Sectors n } ∷ []) xs ys old.marks [] xlong mlong
-      ∙ ap (λ q. wants_of old.kind before xs old.marks ++ q) (append-nil (sectors_from old.kind run.addr n ys)) in
-      let new_is : wants_of old.kind (before ++ grown ∷ []) (xs ++ (ys ++ sum)) old.marks
-      ≡ wants_of old.kind before xs old.marks ++ (sectors_from old.kind run.addr n ys ++ Sector (run.addr + n * 4096) (stored_sum old.kind sum) ∷ []) =
-      ap (λ q. wants_of old.kind (before ++ grown ∷ []) (xs ++ (ys ++ sum)) q) (sym (append-nil old.marks))
-      ∙ wants_both old.kind before (grown ∷ []) xs (ys ++ sum) old.marks [] xlong mlong
-      ∙ ap (λ q. wants_of old.kind before xs old.marks ++ q) (append-nil (sectors_from old.kind run.addr (suc n) (ys ++ sum))
-      ∙ sectors_more old.kind n run.addr ys sum ylong) in
-      subst (λ x. AddsTo old x (Sector addr (stored_sum old.kind bytes))) (sym e) (record {
-        is_list = record {
-          runs_fit = runs_both before (grown ∷ []) before_fit (fits, tt);
-          sums_fit = long1 ∙ omega (arith, xlong, ylong, long2, one, step) ∙ sym grown_times;
-          marks_fit = omega (arith, mlong, grown_trees);
-        };
-        kind = refl;
-        wants = new_is
-            ∙ sym (append_assoc (wants_of old.kind before xs old.marks) (sectors_from old.kind run.addr n ys)
-            (Sector (run.addr + n * 4096) (stored_sum old.kind sum) ∷ []))
-            ∙ ap (λ q. q ++ Sector (run.addr + n * 4096) (stored_sum old.kind sum) ∷ []) (sym old_is)
-            ∙ ap (λ q. kept_wants old ++ Sector q (stored_sum old.kind sum) ∷ []) (sym l.next)
-            ∙ ap (λ q. kept_wants old ++ Sector addr (sum_from old.kind q) ∷ []) (take-take size size bytes (omega arith));
-      })
-
-  -- sectors without a checksum behind the others, which begin a run
-  pub plain_added : (new : KeptBlocks) (addr n : ℕ) → 1 ≤ n → addr + n * 4096 < 2 ^ 64 → new.kind ≡ old.kind
-      → new.runs ≡ old.runs ++ record { addr = addr; kind = Unsummed n } ∷ [] → new.sums ≡ old.sums → new.marks ≡ old.marks
-      → AddsAll old new (plains_from addr n)
-  plain_added new addr n some small k r s m =
-      let run : Run = record { addr = addr; kind = Unsummed n } in
-      let e = same_kept new old.kind (old.runs ++ run ∷ []) old.sums old.marks k r s m in
-      let count = sectors_both old.runs (run ∷ []) in
-      let trees = trees_both old.runs (run ∷ []) in
-      let none : all_sectors (old.runs ++ run ∷ []) ≡ all_sectors old.runs = omega (arith, count) in
-      let fits : IsRun addr (Unsummed n) = (some, omega (arith, some, small)) in
-      subst (λ x. AddsAll old x (plains_from addr n)) (sym e) (record {
-        is_list = record {
-          runs_fit = runs_both old.runs (run ∷ []) is.runs_fit (fits, tt);
-          sums_fit = is.sums_fit ∙ ap (λ q. q * sum_size old.kind) (sym none);
-          marks_fit = omega (arith, trees, is.marks_fit);
-        };
-        kind = refl;
-        wants = ap (λ xs. wants_of old.kind (old.runs ++ run ∷ []) xs old.marks) (sym (append-nil old.sums))
-            ∙ ap (λ ms. wants_of old.kind (old.runs ++ run ∷ []) (old.sums ++ []) ms) (sym (append-nil old.marks))
-            ∙ wants_both old.kind old.runs (run ∷ []) old.sums [] old.marks [] is.sums_fit is.marks_fit
-            ∙ ap (λ ws. kept_wants old ++ ws) (append-nil (plains_from addr n));
-      })
-
-  -- some behind the others, by which the last run is longer
-  pub plain_grown : (new : KeptBlocks) (before : List Run) (run longer : Run) (addr more : ℕ) → 1 ≤ more → addr + more * 4096 < 2 ^ 64
-      → Extends run addr more longer → old.runs ≡ before ++ run ∷ [] → new.kind ≡ old.kind → new.runs ≡ before ++ longer ∷ []
-      → new.sums ≡ old.sums → new.marks ≡ old.marks → AddsAll old new (plains_from addr more)
-  plain_grown new before run longer addr more some small l b k r s m =
-      let n = l.count in
-      let size = sum_size old.kind in
-      let run_is : all_sectors (run ∷ []) ≡ 0 = ap (λ q. sectors_of q + 0) l.sectors in
-      let run_trees : all_trees (run ∷ []) ≡ 0 = ap (λ q. trees_of q + 0) l.sectors in
-      let count : all_sectors old.runs ≡ all_sectors before + 0 = ap all_sectors b ∙ sectors_both before (run ∷ []) ∙ ap (λ q. all_sectors before + q) run_is in
-      let same_count : all_sectors old.runs ≡ all_sectors before = count ∙ omega arith in
-      let xlong : length old.sums ≡ all_sectors before * size = is.sums_fit ∙ ap (λ q. q * size) same_count in
-      let trees : all_trees old.runs ≡ all_trees before + 0 = ap all_trees b ∙ trees_both before (run ∷ []) ∙ ap (λ q. all_trees before + q) run_trees in
-      let mlong : length old.marks ≡ all_trees before = omega (arith, is.marks_fit, trees) in
-      let grown : Run = record { addr = run.addr; kind = Unsummed (n + more) } in
-      let run_same : run ≡ record { addr = run.addr; kind = Unsummed n } = ap (λ q. record { addr = run.addr; kind = q }) l.sectors in
-      let e = same_kept new old.kind (before ++ grown ∷ []) old.sums old.marks k (r ∙ ap (λ q. before ++ q ∷ []) l.more) s m in
-      let before_fit : AreRuns before = runs_before before (run ∷ []) (subst AreRuns b is.runs_fit) in
-      let fits : IsRun run.addr (Unsummed (n + more)) = (omega (arith, some), omega (arith, some, small, l.next)) in
-      let grown_count : all_sectors (before ++ grown ∷ []) ≡ all_sectors before = sectors_both before (grown ∷ []) ∙ omega arith in
-      let grown_trees = trees_both before (grown ∷ []) in
-      let with_run : (q : ℕ) → wants_of old.kind (before ++ record { addr = run.addr; kind = Unsummed q } ∷ []) old.sums old.marks
-      ≡ wants_of old.kind before old.sums old.marks ++ plains_from run.addr q =
-      λ q. ap (λ xs. wants_of old.kind (before ++ record { addr = run.addr; kind = Unsummed q } ∷ []) xs old.marks) (sym (append-nil old.sums))
-      ∙ ap (λ ms. wants_of old.kind (before ++ record { addr = run.addr; kind = Unsummed q } ∷ []) (old.sums ++ []) ms) (sym (append-nil old.marks))
-      ∙ wants_both old.kind before (record { addr = run.addr; kind = Unsummed q } ∷ []) old.sums [] old.marks [] xlong mlong
-      ∙ ap (λ ws. wants_of old.kind before old.sums old.marks ++ ws) (append-nil (plains_from run.addr q)) in
-      let old_is : kept_wants old ≡ wants_of old.kind before old.sums old.marks ++ plains_from run.addr n =
-      ap (λ q. wants_of old.kind q old.sums old.marks) (b ∙ ap (λ q. before ++ q ∷ []) run_same) ∙ with_run n in
-      subst (λ x. AddsAll old x (plains_from addr more)) (sym e) (record {
-        is_list = record {
-          runs_fit = runs_both before (grown ∷ []) before_fit (fits, tt);
-          sums_fit = xlong ∙ ap (λ q. q * size) (sym grown_count);
-          marks_fit = omega (arith, mlong, grown_trees);
-        };
-        kind = refl;
-        wants = with_run (n + more)
-            ∙ ap (λ ws. wants_of old.kind before old.sums old.marks ++ ws) (plains_both n more run.addr)
-            ∙ sym (append_assoc (wants_of old.kind before old.sums old.marks) (plains_from run.addr n) (plains_from (run.addr + n * 4096) more))
-            ∙ ap (λ ws. ws ++ plains_from (run.addr + n * 4096) more) (sym old_is)
-            ∙ ap (λ q. kept_wants old ++ plains_from q more) (sym l.next);
-      })
+-- the last run was made longer by some blocks, with their checksums
+grown : (kind : SumKind) (before : List Run) (run longer : Run) (sums more : List ℕ) (marks : List TreeMark) (ws : List Want)
+    → IsList (made kind (before ++ run ∷ []) sums marks) → trees_of run.kind ≡ 0 → trees_of longer.kind ≡ 0 → IsRun longer.addr longer.kind
+    → sectors_of run.kind * sum_size kind + length more ≡ sectors_of longer.kind * sum_size kind
+    → ((ys : List ℕ) → length ys ≡ sectors_of run.kind * sum_size kind
+    → run_wants kind longer.addr longer.kind (ys ++ more) [] ≡ run_wants kind run.addr run.kind ys [] ++ ws)
+    → AddsAll (made kind (before ++ run ∷ []) sums marks) (made kind (before ++ longer ∷ []) (sums ++ more) marks) ws
+grown kind before run longer sums more marks ws is none still fits counts wants =
+    let size = sum_size kind in
+    let n = sectors_of run.kind in
+    let m = all_sectors before * size in
+    let xs = take m sums in
+    let ys = drop m sums in
+    let split : sums ≡ xs ++ ys = sym (take-append-drop m sums) in
+    let count : all_sectors (before ++ run ∷ []) ≡ all_sectors before + n = sectors_both before (run ∷ []) ∙ omega arith in
+    let times = ap (λ q. q * size) count ∙ times_sum (all_sectors before) n size in
+    let first_long : length xs ≡ m = length-take-le m sums (omega (arith, is.sums_fit, times)) in
+    let last_long : length ys ≡ n * size = omega (arith, length-drop m sums, is.sums_fit, times) in
+    let marked : length marks ≡ all_trees before = omega (arith, is.marks_fit, trees_both before (run ∷ []), none) in
+    let first = made kind before xs marks in
+    let last = made kind (longer ∷ []) (ys ++ more) [] in
+    let a = adds_list first last (record { runs_fit = runs_before before (run ∷ []) is.runs_fit; sums_fit = first_long; marks_fit = marked })
+    (record { runs_fit = (fits, tt); sums_fit = omega (arith, length-append ys more, last_long, counts); marks_fit = omega (arith, still) }) refl in
+    let old : wants_of kind (before ++ run ∷ []) sums marks ≡ kept_wants first ++ run_wants kind run.addr run.kind ys [] =
+    ap (λ q. wants_of kind (before ++ run ∷ []) q marks) split ∙ ap (wants_of kind (before ++ run ∷ []) (xs ++ ys)) (sym (append-nil marks))
+    ∙ wants_both kind before (run ∷ []) xs ys marks [] first_long marked
+    ∙ ap (λ q. kept_wants first ++ q) (append-nil (run_wants kind run.addr run.kind ys [])) in
+    subst (λ x. AddsAll (made kind (before ++ run ∷ []) sums marks) x ws)
+    (same_kept (both first last) kind (before ++ longer ∷ []) (sums ++ more) marks refl refl (sym (append_assoc xs ys more) ∙ ap (λ q. q ++ more) (sym split))
+    (append-nil marks)) (record {
+      is_list = a.is_list;
+      kind = refl;
+      wants = a.wants ∙ ap (λ q. kept_wants first ++ q) (append-nil (run_wants kind longer.addr longer.kind (ys ++ more) []) ∙ wants ys last_long)
+          ∙ sym (append_assoc (kept_wants first) (run_wants kind run.addr run.kind ys []) ws) ∙ ap (λ q. q ++ ws) (sym old);
+    })
 
 -- the calls that put blocks behind the others
 module _ {E : Type 0} (result : Result (Unit {0}) E) (old : KeptBlocks) (is : IsList old) where
+  -- the blocks of a list were put behind the others, part by part
+  added : (new more : KeptBlocks) → IsList more → more.kind ≡ old.kind → new.kind ≡ old.kind → new.runs ≡ old.runs ++ more.runs
+      → new.sums ≡ old.sums ++ more.sums → new.marks ≡ old.marks ++ more.marks → AddsAll old new (kept_wants more)
+  added new more is_more same k r s m = subst (λ x. AddsAll old x (kept_wants more))
+      (sym (same_kept new old.kind (old.runs ++ more.runs) (old.sums ++ more.sums) (old.marks ++ more.marks) k r s m)) (adds_list old more is is_more same)
+
   -- a tree block was put behind the list, if there was memory
   pub tree_pushed : (mid inner : KeptBlocks) (marks : List TreeMark) (addr generation level : ℕ) → Begins old mid (record { addr = addr; kind = TreeBlock })
       → inner ≡ mid → OnOk result (marks ≡ inner.marks ++ record { generation = generation; level = level } ∷ [])
       → OnOk result (AddsTo old (made inner.kind inner.runs inner.sums marks) (Tree addr generation level))
-  tree_pushed mid inner marks addr generation level b same h = on_ok result
-      (λ m. tree_added old is (made inner.kind inner.runs inner.sums marks) addr generation level
-      (ap (λ (k : KeptBlocks). k.kind) same ∙ b.kind) (ap (λ (k : KeptBlocks). k.runs) same ∙ b.runs) (ap (λ (k : KeptBlocks). k.sums) same ∙ b.sums)
-      (m ∙ ap (λ q. q ++ record { generation = generation; level = level } ∷ []) (ap (λ (k : KeptBlocks). k.marks) same ∙ b.marks))) h
+  tree_pushed mid inner marks addr generation level b same h =
+      let run : Run = record { addr = addr; kind = TreeBlock } in
+      let mark : TreeMark = record { generation = generation; level = level } in
+      let begun : Begins old inner run = subst (λ k. Begins old k run) (sym same) b in
+      on_ok_weaker result (λ m. added (made inner.kind inner.runs inner.sums marks) (made old.kind (run ∷ []) [] (mark ∷ []))
+      (record { runs_fit = (tt, tt); sums_fit = omega arith; marks_fit = omega arith }) refl begun.kind begun.runs (begun.sums ∙ sym (append-nil old.sums))
+      (m ∙ ap (λ q. q ++ mark ∷ []) begun.marks)) h
 
   -- a sector was, which begins a run
   pub sector_begun : (mid inner : KeptBlocks) (sums bytes : List ℕ) (addr : ℕ) → addr < 2 ^ 64 → length bytes ≡ 32
       → Begins old mid (record { addr = addr; kind = Sectors 1 }) → inner ≡ mid → OnOk result (sums ≡ inner.sums ++ take (sum_size inner.kind) bytes)
       → OnOk result (AddsTo old (made inner.kind inner.runs sums inner.marks) (Sector addr (stored_sum old.kind bytes)))
-  sector_begun mid inner sums bytes addr small long b same h = on_ok result (λ s.
-      let kind : inner.kind ≡ old.kind = ap (λ (k : KeptBlocks). k.kind) same ∙ b.kind in
-      let few = size_few old.kind in
-      sector_added old is (made inner.kind inner.runs sums inner.marks) addr bytes small (omega (arith, few, long)) kind
-      (ap (λ (k : KeptBlocks). k.runs) same ∙ b.runs)
-      (s ∙ ap (λ q. q ++ take (sum_size inner.kind) bytes) (ap (λ (k : KeptBlocks). k.sums) same ∙ b.sums)
-      ∙ ap (λ q. old.sums ++ take (sum_size q) bytes) kind) (ap (λ (k : KeptBlocks). k.marks) same ∙ b.marks)) h
+  sector_begun mid inner sums bytes addr small long b same h =
+      let run : Run = record { addr = addr; kind = Sectors 1 } in
+      let size = sum_size old.kind in
+      let begun : Begins old inner run = subst (λ k. Begins old k run) (sym same) b in
+      let one = length-take-le size bytes (omega (arith, size_few old.kind, long)) in
+      let new = made inner.kind inner.runs sums inner.marks in
+      on_ok_weaker result (λ s. subst (λ q. AddsTo old new (Sector addr (sum_from old.kind q))) (take-take size size bytes (omega arith))
+      (added new (made old.kind (run ∷ []) (take size bytes) [])
+      (record { runs_fit = ((omega arith, omega (arith, small)), tt); sums_fit = omega (arith, one); marks_fit = omega arith }) refl begun.kind begun.runs
+      (s ∙ ap (λ q. q ++ take (sum_size inner.kind) bytes) begun.sums ∙ ap (λ q. old.sums ++ take (sum_size q) bytes) begun.kind)
+      (begun.marks ∙ sym (append-nil old.marks)))) h
 
   -- a sector was, by which the last run is longer
   pub sector_lengthened : (kind : SumKind) (runs : List Run) (last : Option Run) (sums : List ℕ) (marks : List TreeMark) (longer : Run)
@@ -368,18 +249,32 @@ module _ {E : Type 0} (result : Result (Unit {0}) E) (old : KeptBlocks) (is : Is
       → IsSomeAnd last (λ run. Lengthens run addr longer) → OnOk result (new ≡ sums ++ take (sum_size kind) bytes)
       → OnOk result (AddsTo old (made kind (runs ++ longer ∷ []) new marks) (Sector addr (stored_sum old.kind bytes)))
   sector_lengthened kind runs None sums marks longer new bytes addr small long same l h = absurd l
-  sector_lengthened kind runs (Some run) sums marks longer new bytes addr small long same l h = on_ok result (λ s.
-      let few = size_few old.kind in
-      let k : kind ≡ old.kind = ap (λ (q : KeptBlocks). q.kind) same in
-      sector_grown old is (made kind (runs ++ longer ∷ []) new marks) runs run longer addr bytes small (omega (arith, few, long)) l
-      (sym (ap (λ (q : KeptBlocks). q.runs) same)) k refl
-      (s ∙ ap (λ q. q ++ take (sum_size kind) bytes) (ap (λ (q : KeptBlocks). q.sums) same) ∙ ap (λ q. old.sums ++ take (sum_size q) bytes) k)
-      (ap (λ (q : KeptBlocks). q.marks) same)) h
+  sector_lengthened kind runs (Some run) sums marks longer new bytes addr small long same l h =
+      let size = sum_size kind in
+      let n = l.count in
+      let was : Run = record { addr = run.addr; kind = Sectors n } in
+      let is_now : Run = record { addr = run.addr; kind = Sectors (suc n) } in
+      let sum = take size bytes in
+      let one = length-take-le size bytes (omega (arith, size_few kind, long)) in
+      let more : n + 1 ≡ suc n = omega arith in
+      let e = ap (λ q. made kind (runs ++ record { addr = run.addr; kind = q } ∷ []) sums marks) (sym l.sectors) ∙ same in
+      let a = grown kind runs was is_now sums sum marks (Sector addr (stored_sum kind bytes) ∷ []) (subst IsList (sym e) is) refl refl
+      (omega arith, omega (arith, small, l.next)) (omega (arith, one, suc-mul n size))
+      (λ ys many. sectors_more kind n run.addr ys sum many
+      ∙ ap (λ q. sectors_from kind run.addr n ys ++ Sector q (stored_sum kind sum) ∷ []) (sym l.next)
+      ∙ ap (λ q. sectors_from kind run.addr n ys ++ Sector addr (sum_from kind q) ∷ []) (take-take size size bytes (omega arith))) in
+      on_ok_weaker result (λ s. subst (λ o. AddsTo o (made kind (runs ++ longer ∷ []) new marks) (Sector addr (stored_sum o.kind bytes))) e
+      (subst (λ x. AddsTo (made kind (runs ++ was ∷ []) sums marks) x (Sector addr (stored_sum kind bytes)))
+      (ap (λ q. made kind (runs ++ q ∷ []) (sums ++ sum) marks) (sym (l.more ∙ ap (λ q. record { addr = run.addr; kind = Sectors q }) more))
+      ∙ ap (λ q. made kind (runs ++ longer ∷ []) q marks) (sym s)) a)) h
 
   -- sectors without a checksum were, which begin a run
   pub plain_begun : (new : KeptBlocks) (addr n : ℕ) → 1 ≤ n → addr + n * 4096 < 2 ^ 64
       → OnOk result (Begins old new (record { addr = addr; kind = Unsummed n })) → OnOk result (AddsAll old new (plains_from addr n))
-  plain_begun new addr n some small h = on_ok result (λ b. plain_added old is new addr n some small b.kind b.runs b.sums b.marks) h
+  plain_begun new addr n some small h = on_ok_weaker result (λ b. subst (AddsAll old new) (append-nil (plains_from addr n))
+      (added new (made old.kind (record { addr = addr; kind = Unsummed n } ∷ []) [] [])
+      (record { runs_fit = ((some, omega (arith, some, small)), tt); sums_fit = omega arith; marks_fit = omega arith }) refl b.kind b.runs
+      (b.sums ∙ sym (append-nil old.sums)) (b.marks ∙ sym (append-nil old.marks)))) h
 
 -- the last run has more sectors without a checksum
 pub plain_lengthened : (old : KeptBlocks) → IsList old → (kind : SumKind) (runs : List Run) (last : Option Run) (sums : List ℕ) (marks : List TreeMark)
@@ -387,8 +282,15 @@ pub plain_lengthened : (old : KeptBlocks) → IsList old → (kind : SumKind) (r
     → IsSomeAnd last (λ run. Extends run addr n longer) → AddsAll old (made kind (runs ++ longer ∷ []) sums marks) (plains_from addr n)
 plain_lengthened old is kind runs None sums marks longer addr n some small same l = absurd l
 plain_lengthened old is kind runs (Some run) sums marks longer addr n some small same l =
-    plain_grown old is (made kind (runs ++ longer ∷ []) sums marks) runs run longer addr n some small l (sym (ap (λ (q : KeptBlocks). q.runs) same))
-    (ap (λ (q : KeptBlocks). q.kind) same) refl (ap (λ (q : KeptBlocks). q.sums) same) (ap (λ (q : KeptBlocks). q.marks) same)
+    let was : Run = record { addr = run.addr; kind = Unsummed l.count } in
+    let is_now : Run = record { addr = run.addr; kind = Unsummed (l.count + n) } in
+    let e = ap (λ q. made kind (runs ++ record { addr = run.addr; kind = q } ∷ []) sums marks) (sym l.sectors) ∙ same in
+    let a = grown kind runs was is_now sums [] marks (plains_from addr n) (subst IsList (sym e) is) refl refl
+    (omega (arith, some), omega (arith, some, small, l.next)) (omega arith)
+    (λ ys many. plains_both l.count n run.addr ∙ ap (λ q. plains_from run.addr l.count ++ plains_from q n) (sym l.next)) in
+    subst (λ o. AddsAll o (made kind (runs ++ longer ∷ []) sums marks) (plains_from addr n)) e
+    (subst (λ x. AddsAll (made kind (runs ++ was ∷ []) sums marks) x (plains_from addr n))
+    (ap (λ q. made kind (runs ++ q ∷ []) (sums ++ []) marks) (sym l.more) ∙ ap (λ q. made kind (runs ++ longer ∷ []) q marks) (append-nil sums)) a)
 
 -- each run has a sector, or is a tree block
 runs_few : (runs : List Run) → AreRuns runs → length runs ≤ all_sectors runs + all_plains runs + all_trees runs
@@ -397,18 +299,11 @@ runs_few (run ∷ runs) h = let one = by run.addr run.kind h.0 in let more = run
   where
     by : (addr : ℕ) (k : RunKind) → IsRun addr k → 1 ≤ sectors_of k + plains_of k + trees_of k
     by addr TreeBlock h = omega arith
-    by addr (Sectors n) h = omega (arith, h.0)
-    by addr (Unsummed n) h = omega (arith, h.0)
-
--- so many checksums have at most 32 bytes each
-sums_few : (kind : SumKind) (n len : ℕ) → len ≡ n * sum_size kind → len ≤ n * 32
-sums_few Crc32c n len h = omega (arith, h)
-sums_few Sha256 n len h = omega (arith, h)
-sums_few Xxh64 n len h = omega (arith, h)
+    by addr k h = omega (arith, h.0)
 
 -- a list takes at most 48 bytes for each sector with a checksum, 16 for each without, and 32 for each tree block
 pub few_bytes : FewBytes
 few_bytes kept is =
     let runs = runs_few kept.runs is.runs_fit in
-    let sums = sums_few kept.kind (all_sectors kept.runs) (length kept.sums) is.sums_fit in
-    omega (arith, runs, sums, is.marks_fit)
+    let sums = mul-le (all_sectors kept.runs) (sum_size kept.kind) (all_sectors kept.runs) 32 (omega arith) (size_few kept.kind) in
+    omega (arith, runs, sums, is.sums_fit, is.marks_fit)

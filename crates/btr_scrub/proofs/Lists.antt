@@ -1,11 +1,10 @@
 -- Members of lists, and what holds of some of them, or of none.
-use Rattle.std.proofs.Common.{◌≡◌, ℕ, zero, suc, ◌<◌, List, [], ◌∷◌, ◌++◌, map, length, get_or, slice_get, All, Some, refl, sym, ap, subst, inl, inr, arith}
-use Rattle.std.proofs.Common.{Bool, true, false, ◌||◌, ◌⊎◌, ◌∙◌, Option, None, IsSome, is_some, is_none, Result, Ok, Err, IsErrAnd}
+use Rattle.std.proofs.Common.{◌≡◌, ℕ, zero, suc, ◌<◌, List, [], ◌∷◌, ◌++◌, map, length, slice_get, All, Some, refl, sym, ap, subst, inl, inr, arith, Bool, true}
+use Rattle.std.proofs.Common.{false, ◌||◌, ◌⊎◌, ◌∙◌, Option, None, IsSome, is_some, is_none, Result, Ok, Err, IsErrAnd}
 use Rattle.std.proofs.lemmas.List.Elements.{All-cons, All-nil}
-use Rattle.btr_scrub.proofs.Common.{cons_option, false_from_ne_true, false≢true, filter_map, flat_map, get_or_from_slice_get, in_either, in_left, in_right}
+use Rattle.btr_scrub.proofs.Common.{In, cons_option, false_from_ne_true, false≢true, filter_map, flat_map, get_or_from_slice_get, in_either, in_left, in_right}
 use Rattle.btr_scrub.proofs.Common.{list_any, option_map, same_Some, slice_get_within}
 use Rattle.std.specs.List.{Any, Contains, fold}
-use Rattle.btr_scrub.specs.BlocksInRows.{In}
 use Rattle.std.proofs.lemmas.Bool.{both_ways, or_cases}
 use Rattle.std.proofs.lemmas.List.Folds.{Any-from_list_any, list_any-from_Any, list_any-append}
 pub use Rattle.btr_read.proofs.Ones.{in_map}
@@ -40,15 +39,9 @@ all_from P (x ∷ xs) h = All-cons P x xs (h x (inl refl)) (all_from P xs (λ y 
 pub any_in : {X : Type 0} (P : X → Type 0) (xs : List X) (x : X) → In x xs → P x → Any P xs
 any_in P xs x i p = let r = at_in x xs i in any_at P xs r.0 x (slice_get_within xs r.0 x r.1) r.1 p
 
--- what stands at a place is a member
-in_at : {X : Type 0} (xs : List X) (k : ℕ) (x : X) → k < length xs → get_or xs k x ≡ x → In x xs
-in_at [] k x lt e = absurd (omega (arith, lt))
-in_at (y ∷ xs) zero x lt e = inl e
-in_at (y ∷ xs) (suc k) x lt e = inr (in_at xs k x (omega (arith, lt)) e)
-
 -- where some member has it, it is one of the list
 pub in_any : {X : Type 0} (P : X → Type 0) (xs : List X) → Any P xs → (x : X) × In x xs × P x
-in_any P xs a = (a.1, in_at xs a.0 a.1 a.2 a.3, a.4)
+in_any P xs a = (a.1, in_of a.1 xs (a.0, a.2, a.3), a.4)
 
 -- a member of all is one of what some member gives
 pub of_flat : {X Y : Type 0} (f : X → List Y) (y : Y) (xs : List X) → In y (flat_map f xs) → (x : X) × In x xs × In y (f x)
@@ -88,8 +81,7 @@ in_more (Some y) x xs i = inr i
 
 -- the first is a member
 pub first_in : {X : Type 0} (xs : List X) (x : X) → slice_get xs 0 ≡ Some x → In x xs
-first_in [] x e = cc
-first_in (y ∷ xs) x e = inl (same_Some y x e)
+first_in xs x e = in_some x xs 0 e
 
 -- a value that came of another has that
 pub mapped : {X Y : Type 0} (g : X → Y) (o : Option X) (y : Y) → option_map g o ≡ Some y → (x : X) × (o ≡ Some x) × (g x ≡ y)

@@ -1,15 +1,13 @@
 -- One full stripe more of a chunk with parity: those between have no checked block.
-use Rattle.std.proofs.Common.{◌≡◌, ℕ, ◌+◌, ◌-◌, ◌*◌, ◌<◌, ◌≤◌, Bool, true, ◌&&◌, eqb, List, [], ◌∷◌, ◌++◌, map, All, Option, Some}
-use Rattle.std.proofs.Common.{Ok, refl, sym, ap, ◌∙◌, subst, inl, inr, arith, append-nil}
-use Rattle.btr_scrub.proofs.Common.{AreApart, Chunk, Failing, HaveLengths, Images, IsOfElement, Layout, Part, Row, Tally, Target, Want, Write, cons_option}
-use Rattle.btr_scrub.proofs.Common.{count_row, count_row_of, counted_row, eq-eqb, filter, flat_map, is_in_row, list_any, mended_row, mending_writes}
+use Rattle.std.proofs.Common.{◌≡◌, ℕ, ◌+◌, ◌-◌, ◌*◌, ◌<◌, ◌≤◌, Bool, true, ◌&&◌, eqb, List, [], ◌∷◌, ◌++◌, map, All, Option, Some, Ok, refl, sym, ap, ◌∙◌}
+use Rattle.std.proofs.Common.{subst, inl, inr, arith, append-nil}
+use Rattle.btr_scrub.proofs.Common.{AreApart, Chunk, Failing, HaveLengths, Images, In, IsOfElement, Layout, Part, Row, Tally, Target, Want, Write, cons_option}
+use Rattle.btr_scrub.proofs.Common.{count_row, count_row_of, counted_row, covers, eq-eqb, filter, flat_map, is_in_row, list_any, mended_row, mending_writes}
 use Rattle.btr_scrub.proofs.Common.{ok_or_none, parities, parity_writes, range_with_len, row_of, row_writes, rows_count, rows_writes, sought, stripe_length}
 use Rattle.btr_scrub.proofs.Common.{targets}
 use Rattle.std.proofs.lemmas.Grind.{flat_map-append}
 use Rattle.std.proofs.lemmas.List.{map-append}
 use Rattle.btr_scrub_row.specs.Mending.{IsRowOf, IsOn, is_at}
-use Rattle.btr_scrub.specs.BlocksInRows.{In}
-use Rattle.btr_scrub.specs.Repair.{covers}
 use Rattle.btr_scrub.proofs.Places.{elements_apart}
 use Rattle.btr_scrub.proofs.RowAgreeing.{row_writes_alike}
 use Rattle.btr_scrub.proofs.RowWrites.{row_short, row_stays, written_row}
@@ -24,18 +22,12 @@ use Rattle.btr_scrub.proofs.Grouping.{IsNextGroup, group_between, group_is}
 
 -- ---- empty rows
 
--- a row without blocks has no parity to write
-decided_none : (images : Images) (layout : Layout) (chunk : Chunk) (r : ℕ) (k : Failing) (q : _) → parity_writes images layout
-    (record { chunk = chunk; number = r; blocks = []; failing = k }) q ≡ []
-decided_none images layout chunk r k q = refl
-
 -- nothing is written for a row without blocks
 pub empty_writes : (images : Images) (layout : Layout) (row : Row) → row.blocks ≡ [] → row_writes images layout row ≡ []
 empty_writes images layout row e =
     ap (λ bs. flat_map (mending_writes images row.failing) bs ++ flat_map (parity_writes images layout row) (parities row.chunk.profile)) e
     ∙ flat_none (parity_writes images layout row) (parities row.chunk.profile)
-    (λ q i. ap (λ bs. parity_writes images layout (record { chunk = row.chunk; number = row.number; blocks = bs; failing = row.failing }) q) e
-    ∙ decided_none images layout row.chunk row.number row.failing q)
+    (λ q i. ap (λ bs. parity_writes images layout (record { chunk = row.chunk; number = row.number; blocks = bs; failing = row.failing }) q) e)
 
 -- nothing is counted for it
 pub empty_count : (images : Images) (layout : Layout) (write : Bool) (tally : Tally) (row : Row) → row.blocks ≡ []

@@ -1,22 +1,21 @@
 -- One full stripe of the table, as it was mended.
-use Rattle.std.proofs.Common.{◌≡◌, ℕ, ◌+◌, ◌*◌, Bool, List, [], length, slice_get, Option, Some, None, IsSomeAnd, Result, Ok, Err, refl, sym, ap, ◌∙◌, inl, inr}
-use Rattle.std.proofs.Common.{arith}
-use Rattle.btr_scrub.proofs.Common.{Blocks, CanMend, Chunk, Elements, HasRooms, Images, IsOfScrub, IsTable, Layout, LiesInChunk, LiesInStripe, MendFault}
-use Rattle.btr_scrub.proofs.Common.{MendedRow, Row, SameLoans, Scrubs, Seen, Serves, StripePlace, Tally, Target, Want, Write, addr_of, all_at, alone}
-use Rattle.btr_scrub.proofs.Common.{chunk_at, counted_row, device_in, facts, flagged, holds, len_of, mended_row, place_at, placed_part, plain}
-use Rattle.btr_scrub.proofs.Common.{range_in_element, row_writes, sought, sought_at, sought_in, stripe_of, writes_if}
+use Rattle.std.proofs.Common.{◌≡◌, ℕ, ◌+◌, ◌*◌, Bool, List, length, slice_get, Option, Some, None, IsSomeAnd, Result, Ok, Err, refl, sym, ap, ◌∙◌, inl, inr, []}
+use Rattle.std.proofs.Common.{arith, false}
+use Rattle.btr_scrub.proofs.Common.{Chunk, Elements, HasRooms, IsOfScrub, IsTable, Layout, LiesInChunk, LiesInStripe, MendFault, MendedRow, OnlyReads, Range}
+use Rattle.btr_scrub.proofs.Common.{Row, Scrubs, Seen, StripePlace, Tally, Target, Want, addr_of, all_at, alone, chunk_at, counted_row, device_in, facts}
+use Rattle.btr_scrub.proofs.Common.{flagged, holds, len_of, mended_row, place_at, placed_part, plain, range_in_element, row_writes, sought, sought_at}
+use Rattle.btr_scrub.proofs.Common.{sought_in, stripe_of, writes_if}
 use Rattle.btr_chunk.specs.Mapping.{elements_of}
 use Rattle.btr_chunk.specs.declared.mapping.MapFault.{MapFault}
 use Rattle.btr_chunk.specs.declared.mapping.MapFault.TheVariants as map_fault
 use Rattle.btr_chunk.proofs.Rule.{data_count-some}
-use Rattle.btr_rack.specs.declared.place.Place.{Place as Range}
 use Rattle.btr_read.specs.Cause.{LiesIn}
 use Rattle.btr_scrub_copies.specs.Syncing.{IsSyncOr}
 use Rattle.btr_scrub_row.specs.Mending.{HasRoom, IsFullStripe, IsOfRow, IsOn, IsRow, IsRowOf, MendsRow}
 use Rattle.btr_scrub_row.specs.declared.buffer.RowBuffer.{RowBuffer}
-use Rattle.btr_scrub_copies.proofs.Turning.{strands_same}
+use Rattle.btr_scrub_copies.proofs.Turning.{does_plain, strands_same}
 use Rattle.btr_scrub.proofs.Positions.{find_at, lies_alone}
-use Rattle.btr_scrub.proofs.Scrubbing.{does_fault, does_value, does_weaker, tell, told, waits_weaker, can_mend_then}
+use Rattle.btr_scrub.proofs.Scrubbing.{does_fault, does_value, tell, told, waits_weaker}
 use Rattle.btr_scrub.proofs.Lists.{all_from}
 use Rattle.btr_scrub.proofs.Places.{on_device, in_stripe_of}
 
@@ -30,26 +29,20 @@ pub has_room : (layout : Layout) (buffer : RowBuffer) (start number : ℕ) (want
     → IsRowOf layout start number wants row → HasRoom buffer (length row.chunk.stripes)
 has_room layout buffer start number wants row rooms is = let n = chunk_number layout start number row is.stripe in rooms n.0 row.chunk n.1 is.stripe.parity
 
--- some blocks' row, beside the images that are flagged
-pub flagged_row : (layout : Layout) (start number : ℕ) (wants : List Want) (flags : List Bool) → IsRow layout start number wants → (row : Row)
-    × IsRowOf layout start number wants row × (row.failing ≡ flagged flags)
-flagged_row layout start number wants flags h =
+-- what was done for each row of some blocks, beside the images that are flagged, left the slots, and read only where nothing was to be written
+pub row_left : (flags : List Bool) {layout : Layout} {start number : ℕ} {wants : List Want} {m n : List Bool} {write : Bool} {a b : Seen}
+    {result : Result MendedRow MendFault} → IsRow layout start number wants → ((row : Row) → IsRowOf layout start number wants row → row.failing ≡ flagged flags
+    → MendsRow layout row write m n a b result) → (b.slots ≡ a.slots) × (write ≡ false → OnlyReads a b)
+row_left flags h mends =
     let r = h.row in
     let s = h.is.stripe in
-    let row : Row = record { chunk = r.chunk; number = r.number; blocks = r.blocks; failing = flagged flags } in (
-      row,
-      record {
-        stripe = record { chunk = s.chunk; number_is = s.number_is; parity = s.parity; inside = s.inside; stand = s.stand };
-        blocks = h.is.blocks;
-        lie = all_from (IsOn row) r.blocks (λ t i. let on = all_at (IsOn r) r.blocks t h.is.lie i in record { chunk = on.chunk; number = on.number });
-      },
-      refl,
-    )
-
--- behind a call that left the slots, the layout and the loans all blocks can be mended still
-pub still_ready : (write : Bool) (a b : Seen) (old new : Blocks) (m n : List Bool) → CanMend write a old m → Serves b new → SameLoans old new
-    → b.slots ≡ a.slots → length n ≡ length m → CanMend write b new n
-still_ready write a b old new m n can serves same slots long = can_mend_then write a b old new m n can slots same serves long
+    let row : Row = record { chunk = r.chunk; number = r.number; blocks = r.blocks; failing = flagged flags } in
+    let done = mends row (record {
+      stripe = record { chunk = s.chunk; number_is = s.number_is; parity = s.parity; inside = s.inside; stand = s.stand };
+      blocks = h.is.blocks;
+      lie = all_from (IsOn row) r.blocks (λ t i. let on = all_at (IsOn r) r.blocks t h.is.lie i in record { chunk = on.chunk; number = on.number });
+    }) refl in
+    (ap (λ (s : Seen). s.slots) done.does.only.same, done.unwritten)
 
 -- a range in an element lies in a stripe of the row's chunk
 pub row_in_stripe : (layout : Layout) (start number : ℕ) (row : Row) (range : Range) → IsTable layout.chunks → IsFullStripe layout start number row
@@ -74,25 +67,25 @@ row_in_stripe layout start number row range table is of = lies_alone layout row.
         (omega (arith, h.from, d.begin, offset)) (omega (arith, h.to, d.begin, d.long, offset, is.inside, is.number_is))
 
 -- it was mended, and counted
-module _ (layout : Layout) (write : Bool) (row : Row) (m n : List Bool) (a b : Seen)
-    (in_stripe : (range : Range) → IsOfRow layout row range → LiesInStripe (alone layout row.chunk) range) where
-  -- what is written for the row, where it may be written
-  abbrev the_writes : Images → List Write
-  the_writes images = writes_if write (row_writes images layout row)
+module _ {layout : Layout} {start number : ℕ} {row : Row} (table : IsTable layout.chunks) (is : IsFullStripe layout start number row) where
+  -- a call of the row is in the stripes of its chunk
+  in_stripe : (range : Range) → IsOfRow layout row range → LiesInStripe (alone layout row.chunk) range
+  in_stripe range of = row_in_stripe layout start number row range table is of
 
-  -- a call of the row is one of scrub's own
+  -- so it is one of scrub's own
   in_scrub : (range : Range) → IsSyncOr (IsOfRow layout row) range → IsOfScrub (alone layout row.chunk) range
   in_scrub range (inl sync) = inl sync
   in_scrub range (inr of) = inr (in_stripe range of)
 
   -- it was mended to its end
-  pub scrubs_row : (tally tally' : Tally) (mended : MendedRow) → MendsRow layout row write m n a b (Ok mended) → tally' ≡ counted_row tally mended
-      → Scrubs {A = Unit {0}} (alone layout row.chunk) write (λ images. row_writes images layout row)
+  pub scrubs_row : {write : Bool} {m n : List Bool} {a b : Seen} {tally tally' : Tally} {mended : MendedRow} → MendsRow layout row write m n a b (Ok mended)
+      → tally' ≡ counted_row tally mended → Scrubs {A = Unit {0}} (alone layout row.chunk) write (λ images. row_writes images layout row)
       (λ images tally. counted_row tally (mended_row images layout row write)) m n a b tally tally' (Ok (tt {0}))
-  scrubs_row tally tally' mended h e = record {
-    does = does_value (IsOfScrub (alone layout row.chunk)) the_writes [] [] (plain a) (plain b) mended tt
-        (does_weaker (IsSyncOr (IsOfRow layout row)) (IsOfScrub (alone layout row.chunk)) the_writes [] [] (plain a) (plain b) (Ok mended) in_scrub h.does);
-    waits = waits_weaker (IsOfRow layout row) (LiesInStripe (alone layout row.chunk)) a b in_stripe h.lie;
+  scrubs_row {write} {a = a} {b = b} {tally} {tally'} {mended} h e = record {
+    does = does_value (IsOfScrub (alone layout row.chunk)) (λ images. writes_if write (row_writes images layout row)) [] [] (plain a) (plain b) mended tt
+        (does_plain (IsSyncOr (IsOfRow layout row)) (IsOfScrub (alone layout row.chunk)) (λ images. writes_if write (row_writes images layout row)) [] []
+        (plain a) (plain b) (Ok mended) in_scrub h.does);
+    waits = waits_weaker (IsOfRow layout row) (LiesInStripe (alone layout row.chunk)) a a b (λ range i. i) in_stripe h.lie;
     marked = h.marked;
     stranded = h.stranded;
     counts = tell a.held (λ images. tally' ≡ counted_row tally (mended_row images layout row write))
@@ -101,14 +94,14 @@ module _ (layout : Layout) (write : Bool) (row : Row) (m n : List Bool) (a b : S
   }
 
   -- or a call failed
-  pub scrubs_row_not : (tally : Tally) (fault : MendFault) → MendsRow layout row write m n a b (Err fault)
+  pub scrubs_row_not : {write : Bool} {m n : List Bool} {a b : Seen} {tally : Tally} {fault : MendFault} → MendsRow layout row write m n a b (Err fault)
       → Scrubs {A = Unit {0}} (alone layout row.chunk) write (λ images. row_writes images layout row)
       (λ images tally. counted_row tally (mended_row images layout row write)) m n a b tally tally (Err fault)
-  scrubs_row_not tally fault h = record {
-    does = does_fault {A = MendedRow} {B = Unit {0}} (IsOfScrub (alone layout row.chunk)) the_writes [] [] (plain a) (plain b) fault
-        (does_weaker {A = MendedRow} (IsSyncOr (IsOfRow layout row)) (IsOfScrub (alone layout row.chunk)) the_writes [] [] (plain a) (plain b)
-        (Err fault) in_scrub h.does);
-    waits = waits_weaker (IsOfRow layout row) (LiesInStripe (alone layout row.chunk)) a b in_stripe h.lie;
+  scrubs_row_not {write} {a = a} {b = b} {fault = fault} h = record {
+    does = does_fault {A = MendedRow} {B = Unit {0}} (IsOfScrub (alone layout row.chunk)) (λ images. writes_if write (row_writes images layout row)) [] []
+        (plain a) (plain b) fault (does_plain {A = MendedRow} (IsSyncOr (IsOfRow layout row)) (IsOfScrub (alone layout row.chunk))
+        (λ images. writes_if write (row_writes images layout row)) [] [] (plain a) (plain b) (Err fault) in_scrub h.does);
+    waits = waits_weaker (IsOfRow layout row) (LiesInStripe (alone layout row.chunk)) a a b (λ range i. i) in_stripe h.lie;
     marked = h.marked;
     stranded = strands_same MendedRow (Unit {0}) fault a.never_synced b.never_synced h.stranded;
     counts = tt;

@@ -1,11 +1,12 @@
 -- A sector of a data extent.
 use Rattle.std.proofs.Common.{◌≡◌, ℕ, suc, ◌+◌, ◌<◌, ◌≤◌, Bool, true, false, cond, List, [], ◌∷◌, drop, length, take, Option, Some, None, Result, Ok, Err}
 use Rattle.std.proofs.Common.{length-take, refl, sym, ap, ◌∙◌, subst, arith, length-append}
+use Rattle.std.proofs.Math.Nat.{add-zero, sub-zero}
 use Rattle.std.specs.Prelude.{◌-◌, ◌/◌, ◌*◌, replicate}
 use Rattle.std.proofs.lemmas.List.{length-replicate, take-append-le, length-take-le, take_all}
 use Rattle.btr_scrub.proofs.Common.{AddsTo, Checked, Emit, Follows, Gathered, Gathers, IsList, Looks, Map, Mark, Meeting, Met, OnlyReads, Return, SameVolume}
-use Rattle.btr_scrub.proofs.Common.{Sector, Seen, Serves, Sum, SumKind, Super, Tells, TreeFault, TreeItem, TreeRoot, Volume, Want, bind, drawn, exec}
-use Rattle.btr_scrub.proofs.Common.{exec-bind, key, kind_in, no_part, quiet, scene, sector, sector_met, sectors, stored_sum, sum_at, sum_size, unread_by}
+use Rattle.btr_scrub.proofs.Common.{Sector, Seen, Serves, Sum, SumKind, Super, Tells, TreeFault, TreeItem, TreeRoot, Volume, Want, bind, drawn, exec, exec-bind}
+use Rattle.btr_scrub.proofs.Common.{key, kind_in, no_part, quiet, scene, sector, sector_met, sectors, stored_sum, sum_at, sum_size, unread_by}
 use Rattle.btr_base.specs.Sum.{sum_from}
 use Rattle.btr_items.specs.SumRun.{sum_run_of}
 use Rattle.btr_items.specs.Types.{extent_csum}
@@ -44,13 +45,9 @@ module _ (B : Map) (kind : SumKind) (addr : ℕ) (sum : Sum) where
   abbrev Stored : Type 0
   Stored = (bytes : List ℕ) × (sum ≡ stored_sum kind bytes)
 
-  -- two answers of a look-up are the same
-  abbrev Same : Result (Option Sum) fate.Fault → Result (Option Sum) fate.Fault → Type 0
-  Same a b = a ≡ b
-
-  -- so does one that was taken from bytes
-  covered : (b : Bool) (bytes : List ℕ) → Same (Ok (cond b (Some (stored_sum kind bytes)) None)) (Ok (Some sum)) → Stored
-  covered true bytes h = (bytes, let e : stored_sum kind bytes ≡ sum = cc in sym e)
+  -- so it is with one that was taken from bytes
+  covered : (b : Bool) (bytes : List ℕ) → ◌≡◌ {A = Result (Option Sum) fate.Fault} (Ok (cond b (Some (stored_sum kind bytes)) None)) (Ok (Some sum)) → Stored
+  covered true bytes h = (bytes, cc)
   covered false bytes h = cc
 
   -- so does one that was found in an item's run of checksums
@@ -139,11 +136,8 @@ pub sectors_first : (s : Super) (sums : Option TreeRoot) (count addr i : ℕ) �
 sectors_first s sums count addr i lt =
     let more : count - i ≡ suc (count - (i + 1)) = omega (arith, lt) in
     let next : addr + i * 4096 + 4096 ≡ addr + (i + 1) * 4096 = omega arith in
-    ap (λ n. sectors s sums n (addr + i * 4096)) more ∙ ap (λ a. bind (sector s sums (addr + i * 4096)) (λ u. sectors s sums (count - (i + 1)) a)) next
+    rw (more, next)
 
 -- with none of them treated all are left
 pub sectors_all : (s : Super) (sums : Option TreeRoot) (count addr : ℕ) → sectors s sums count addr ≡ sectors s sums (count - 0) (addr + 0 * 4096)
-sectors_all s sums count addr =
-    let all : count ≡ count - 0 = omega arith in
-    let here : addr ≡ addr + 0 * 4096 = omega arith in
-    ap (λ n. sectors s sums n addr) all ∙ ap (λ a. sectors s sums (count - 0) a) here
+sectors_all s sums count addr = rw (sub-zero, add-zero)

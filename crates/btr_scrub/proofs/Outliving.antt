@@ -1,26 +1,23 @@
 -- Whatever stands in the ranges of the writes, each checked block can be had.
 use Rattle.std.proofs.Common.{◌≡◌, ◌⊎◌, ℕ, ◌+◌, ◌*◌, ◌<◌, ◌≤◌, Bool, true, false, not, cond, ◌&&◌, ◌||◌, eqb, List, [], ◌∷◌, map, slice_get, Option, Some, None}
 use Rattle.std.proofs.Common.{is_some, IsSome, IsSomeAnd, refl, sym, ap, ◌∙◌, subst, inl, inr, arith, Result, Ok, Err}
-use Rattle.btr_scrub.proofs.Common.{AreApart, Candidate, Elements, Failing, Fault, HaveLengths, HaveOwnSlots, Images, IsSought, IsTable, KeepsOutside, Layout}
-use Rattle.btr_scrub.proofs.Common.{Mirror, Part, Read, Target, Want, Write, accepted, addr_of, all_writes_for, and_from, and_parts, bad_parts, bytes_eq}
-use Rattle.btr_scrub.proofs.Common.{candidates, cons_option, eq-eqb, false_from_ne_true, false≢true, first_missing, fresh, has_mirror, in_below, is_in_row}
-use Rattle.btr_scrub.proofs.Common.{is_on_behind, is_plain, is_sound, is_stale, len_of, list_any, mending_writes, mirrors, new_bytes, not-true, ok_or_none}
-use Rattle.btr_scrub.proofs.Common.{option_map, option_map_or, or_parts, own_parts, passing_filter, place_at, range_of, range_with_len, renewed, row_of}
-use Rattle.btr_scrub.proofs.Common.{row_writes, same_Some, size_of, sought, sought_of, stale_beside, stale_parts, stands, stripe_length, targets, value_of}
-use Rattle.btr_scrub.proofs.Common.{wrong_parts}
+use Rattle.btr_scrub.proofs.Common.{AreApart, Candidate, Elements, Failing, Fault, HaveLengths, HaveOwnSlots, Images, In, IsSought, IsTable, KeepsOutside}
+use Rattle.btr_scrub.proofs.Common.{Layout, Mirror, Part, Range, Read, Target, Want, Write, accepted, addr_of, all_writes_for, and_from, bad_parts, candidates}
+use Rattle.btr_scrub.proofs.Common.{cons_option, eq-eqb, false_from_ne_true, false≢true, first_missing, fresh, has_mirror, in_below, is_in_row, is_plain}
+use Rattle.btr_scrub.proofs.Common.{is_sound, len_of, list_any, mending_writes, mirrors, new_bytes, not-true, ok_or_none, option_map, or_parts, own_parts}
+use Rattle.btr_scrub.proofs.Common.{passing_filter, place_at, range_of, range_with_len, renewed, row_of, row_writes, same_Some, size_of, sought, sought_of}
+use Rattle.btr_scrub.proofs.Common.{stale_parts, stands, stripe_length, targets, value_of, wrong_parts}
 use Rattle.std.proofs.lemmas.Bool.{both_ways}
 use Rattle.btr_chunk.specs.Apart.{IsOfCopy}
 use Rattle.btr_chunk.proofs.Apart.{copies_apart}
-use Rattle.btr_rack.specs.declared.place.Place.{Place as Range}
 use Rattle.btr_read.specs.Candidates.{element}
 use Rattle.btr_read.proofs.Order.{in_candidates, in_ways, with_copies}
-use Rattle.btr_scrub.specs.BlocksInRows.{In}
 use Rattle.btr_scrub_copies.specs.Fresh.{first_trusted, is_on_doubtful, reads_doubtful}
 use Rattle.btr_scrub.specs.Repair.{covers}
 use Rattle.btr_scrub.specs.Right.{Committed, HasFewWrongAt, HasRightPlace, StandsFor}
 use Rattle.btr_scrub.specs.Staying.{AvoidRight, IsInCopies, IsInWrong}
 use Rattle.btr_scrub.proofs.AcrossChunks.{copy_in_chunk, element_in_chunk, one_chunk, row_is, ForCopies, ForRow, for_one}
-use Rattle.btr_scrub.proofs.Agreeing.{IsTrusted, trusted_from}
+use Rattle.btr_scrub.proofs.Agreeing.{IsTrusted, stale_at, trusted_from}
 use Rattle.btr_scrub.proofs.Blockwise.{all_behind, of_targets, part_is_given, target_sought}
 use Rattle.btr_scrub.proofs.CopyWrites.{same_element, written_byte}
 use Rattle.btr_scrub.proofs.OwnPlaces.{own_copies, over_byte, wrong_own}
@@ -124,76 +121,71 @@ module _ (kept : Failing) (images : Images) (layout : Layout) (wants : List Want
   -- ---- blocks and plain sectors with copies
 
   module _ (t : Target) (among : In t ts) (is : IsSought layout t) (n : ℕ) (has : mirrors t.chunk ≡ Some n) where
-    module _ (k : ℕ) (lt : k < n) (range : Range) (whole : range_of t (Mirror k) ≡ Some range) where
-      -- a byte in the copy's range is a byte of the block's copies
-      abbrev byte : (slot off : ℕ) → covers slot off range ≡ true → IsCopyByte layout t slot off
-      byte slot off c = of_range layout t k slot off range is (has_mirror t n k has lt) whole c
+    -- nothing is wrong at a copy, where the block gets bytes
+    abbrev IsUnwritten : ℕ → Type 0
+    IsUnwritten k = (bytes : List ℕ) → new_bytes images kept t ≡ Some bytes → In (Mirror k) (wrong_parts images kept t) → ⊥
 
-      -- a part of its own that has a byte of this copy is this copy
-      this_copy : (part : Part) → In part (own_parts t) → (slot off : ℕ) → covers slot off range ≡ true → (other : Range)
-          → range_of t part ≡ Some other → covers slot off other ≡ true → part ≡ Mirror k
-      this_copy part mine slot off c other at there =
+    -- a byte in the range of such a copy
+    module _ (k : ℕ) (lt : k < n) (never : IsUnwritten k) (range : Range) (whole : range_of t (Mirror k) ≡ Some range)
+        (slot off : ℕ) (c : covers slot off range ≡ true) where
+      -- it is a byte of the block's copies
+      abbrev byte : IsCopyByte layout t slot off
+      byte = of_range layout t k slot off range is (has_mirror t n k has lt) whole c
+
+      -- a part of the block's own that has this byte is this copy
+      this_copy : (part : Part) → In part (own_parts t) → (other : Range) → range_of t part ≡ Some other → covers slot off other ≡ true → part ≡ Mirror k
+      this_copy part mine other at there =
           let j = of_mapped Mirror part (range_with_len 0 n) (subst (In part) (own_copies t n has) mine) in
           let mirror = has_mirror t n j.0 has (in_below n j.0 j.1) in
           let at_j : range_of t (Mirror j.0) ≡ Some other = ap (range_of t) j.2 ∙ at in
           let same : j.0 ≡ k = sym (copy_of_range layout t j.0 slot off other is mirror at_j there)
-          ∙ same_copy layout t slot off table own is (of_range layout t j.0 slot off other is mirror at_j there) (byte slot off c)
+          ∙ same_copy layout t slot off table own is (of_range layout t j.0 slot off other is mirror at_j there) byte
           ∙ copy_of_range layout t k slot off range is (has_mirror t n k has lt) whole c in
           sym j.2 ∙ ap Mirror same
 
-      -- where it gets bytes, and nothing is wrong at this copy, it isn't written for itself
-      not_over : ((bytes : List ℕ) → new_bytes images kept t ≡ Some bytes → In (Mirror k) (wrong_parts images kept t) → ⊥) → (slot off : ℕ)
-          → covers slot off range ≡ true → list_any (covered_at slot off) (mending_writes images kept t) ≡ true → ⊥
-      not_over never slot off c h =
+      -- so it isn't written for the block itself
+      not_own : list_any (covered_at slot off) (mending_writes images kept t) ≡ true → ⊥
+      not_own h =
           let o = over_byte images kept t slot off h in
-          let same = this_copy o.2.part (wrong_own images kept t o.2.part o.2.wrong) slot off c o.0.range o.2.range o.1 in
+          let same = this_copy o.2.part (wrong_own images kept t o.2.part o.2.wrong) o.0.range o.2.range o.1 in
           never o.0.bytes o.2.gets (subst (λ part. In part (wrong_parts images kept t)) same o.2.wrong)
 
-      -- where it isn't written for itself
-      module _ (not_own : (slot off : ℕ) → covers slot off range ≡ true → list_any (covered_at slot off) (mending_writes images kept t) ≡ true → ⊥) where
-        -- it isn't for any other
-        not_written : (slot off : ℕ) → covers slot off range ≡ true → (w : Write) → covers slot off w.range ≡ true
-            → ForCopies kept images layout wants w ⊎ ForRow kept images layout wants w → ⊥
-        not_written slot off c w on (inl f) =
-            let written = is_any (covered_at slot off) w (mending_writes images kept f.block) f.written on in
-            let s = shares layout t f.block slot off table own is f.is (byte slot off c)
-            (written_byte kept images layout lengths f.block f.is f.copies f.has slot off written) in
-            let same : t ≡ f.block = same_block layout wants 0 t f.block s.one s.other apart among f.among s.below s.under s.same in
-            not_own slot off c (subst (λ u. list_any (covered_at slot off) (mending_writes images kept u) ≡ true) (sym same) written)
-        not_written slot off c w on (inr f) =
-            let row = row_of kept ts f.chunk f.row in
-            let of = row_is f.whole kept wants f.row f.inside in
-            let w = written_row layout row table of.is images slot off of.blocks (is_any (covered_at slot off) w (row_writes images layout row) f.written on) in
-            let number : is.number ≡ w.1.number =
-            one_chunk layout is.number w.1.number slot off table own (copy_in_chunk layout t slot off table is (byte slot off c))
-            (element_in_chunk layout row w.0 slot off table w.1) in
-            let chunk : t.chunk ≡ f.chunk = same_Some t.chunk f.chunk (sym is.there ∙ ap (slice_get layout.chunks) number ∙ w.1.there) in
-            false≢true (sym (ap is_some f.whole.of.parity) ∙ ap (λ k. is_some (mirrors k)) (sym chunk) ∙ ap is_some has)
+      -- nor for any other
+      not_written : (w : Write) → covers slot off w.range ≡ true → ForCopies kept images layout wants w ⊎ ForRow kept images layout wants w → ⊥
+      not_written w on (inl f) =
+          let written = is_any (covered_at slot off) w (mending_writes images kept f.block) f.written on in
+          let s = shares layout t f.block slot off table own is f.is byte
+          (written_byte kept images layout lengths f.block f.is f.copies f.has slot off written) in
+          let same : t ≡ f.block = same_block layout wants 0 t f.block s.one s.other apart among f.among s.below s.under s.same in
+          not_own (subst (λ u. list_any (covered_at slot off) (mending_writes images kept u) ≡ true) (sym same) written)
+      not_written w on (inr f) =
+          let row = row_of kept ts f.chunk f.row in
+          let of = row_is f.whole kept wants f.row f.inside in
+          let w = written_row layout row table of.is images slot off of.blocks (is_any (covered_at slot off) w (row_writes images layout row) f.written on) in
+          let number : is.number ≡ w.1.number =
+          one_chunk layout is.number w.1.number slot off table own (copy_in_chunk layout t slot off table is byte)
+          (element_in_chunk layout row w.0 slot off table w.1) in
+          let chunk : t.chunk ≡ f.chunk = same_Some t.chunk f.chunk (sym is.there ∙ ap (slice_get layout.chunks) number ∙ w.1.there) in
+          false≢true (sym (ap is_some f.whole.of.parity) ∙ ap (λ k. is_some (mirrors k)) (sym chunk) ∙ ap is_some has)
 
-        -- so nothing is written there
-        free : (slot off : ℕ) → covers slot off range ≡ true → list_any (covers slot off) ranges ≡ false
-        free slot off c = false_from_ne_true (list_any (covers slot off) ranges) (λ e.
-            let f = for_what slot off e in absurd (not_written slot off c f.0 f.1 f.2))
+      -- so nothing is written there
+      free : list_any (covers slot off) ranges ≡ false
+      free = false_from_ne_true (list_any (covers slot off) ranges) (λ e. let f = for_what slot off e in absurd (not_written f.0 f.1 f.2))
 
-        -- and the copy stays
-        stays : (left : Images) → KeepsOutside ranges images left → element left t (Mirror k) ≡ element images t (Mirror k)
-        stays left keeps = same_element images left layout ranges t (Mirror k) lengths is keeps
-            (λ slot off c. free slot off (subst (λ o. IsSomeAnd o (λ range. covers slot off range ≡ true)) whole c))
+    -- so the copy stays
+    stays : (k : ℕ) → k < n → IsUnwritten k → (left : Images) → KeepsOutside ranges images left → element left t (Mirror k) ≡ element images t (Mirror k)
+    stays k lt never left keeps = same_element images left layout ranges t (Mirror k) lengths is keeps (λ slot off. by slot off (range_of t (Mirror k)) refl)
+      where
+        by : (slot off : ℕ) (o : Option Range) → range_of t (Mirror k) ≡ o → IsSomeAnd o (λ range. covers slot off range ≡ true)
+            → list_any (covers slot off) ranges ≡ false
+        by slot off None whole c = absurd c
+        by slot off (Some range) whole c = free k lt never range whole slot off c
 
-    -- a copy of a plain sector on an image that isn't in doubt isn't either
     module _ (sector : is_plain t.want ≡ true) where
-      not_freshened : (k : ℕ) (lt : k < n) → is_on_doubtful kept t (Mirror k) ≡ false → (range : Range) (whole : range_of t (Mirror k) ≡ Some range)
-          → (slot off : ℕ) → covers slot off range ≡ true → list_any (covered_at slot off) (mending_writes images kept t) ≡ true → ⊥
-      not_freshened k lt sure range whole = not_over k lt range whole (λ bytes gets i.
-          false≢true (sym (sure_device kept t.devices (place_at t.chunk (Mirror k) t.at).devid sure)
-          ∙ stale (fresh images kept t) (subst (λ b. In (Mirror k) (cond b (stale_parts images kept t) (bad_parts images t))) sector i)))
-        where
-          -- a copy that is stale lies on an image that is behind
-          stale : (o : Option (List ℕ)) → In (Mirror k) (option_map_or (stale_beside images kept t) o []) → is_on_behind kept t (Mirror k) ≡ true
-          stale None i = absurd i
-          stale (Some bytes) i =
-              let p = passing_filter (is_stale images kept t bytes) (Mirror k) (own_parts t) i in
-              (and_parts (is_on_behind kept t (Mirror k)) (not (bytes_eq (element images t (Mirror k)) bytes)) p.1).0
+      -- a copy of a plain sector on an image that isn't in doubt isn't either
+      not_freshened : (k : ℕ) → is_on_doubtful kept t (Mirror k) ≡ false → IsUnwritten k
+      not_freshened k sure bytes gets i = false≢true (sym (sure_device kept t.devices (place_at t.chunk (Mirror k) t.at).devid sure)
+          ∙ (stale_at kept images t (Mirror k) (subst (λ b. In (Mirror k) (cond b (stale_parts images kept t) (bad_parts images t))) sector i)).behind)
 
       -- so its fresh bytes stay
       fresh_stays : (left : Images) → KeepsOutside ranges images left → fresh left kept t ≡ fresh images kept t
@@ -203,14 +195,9 @@ module _ (kept : Failing) (images : Images) (layout : Layout) (wants : List Want
           same : (c : Candidate) → IsTrusted kept t c → value_of left t c ≡ value_of images t c
           same c trusted =
               let j = of_mapped (λ copy. Read (Mirror copy)) c (range_with_len 0 n) (subst (In c) (with_copies t n has) (in_ways t c trusted.there)) in
-              let lt = in_below n j.0 j.1 in
-              let stand : (is_some (range_of t (Mirror j.0)) && true) ≡ true = ap (stands t) j.2 ∙ trusted.stand in
-              let given = (and_parts (is_some (range_of t (Mirror j.0))) true stand).0 in
-              let r = some_of (range_of t (Mirror j.0)) given in
               let sure : (is_on_doubtful kept t (Mirror j.0) || false) ≡ false = ap (reads_doubtful kept t) j.2 ∙ trusted.sure in
-              sym (ap (value_of left t) j.2)
-              ∙ stays j.0 lt r.0 r.1 (not_freshened j.0 lt (or_parts (is_on_doubtful kept t (Mirror j.0)) false sure).0 r.0 r.1) left keeps
-              ∙ ap (value_of images t) j.2
+              subst (λ d. value_of left t d ≡ value_of images t d) j.2 (stays j.0 (in_below n j.0 j.1)
+              (not_freshened j.0 (or_parts (is_on_doubtful kept t (Mirror j.0)) false sure).0) left keeps)
 
           by : (o : Option Candidate) → first_trusted kept t ≡ o → option_map (value_of left t) o ≡ option_map (value_of images t) o
           by None e = refl
@@ -244,40 +231,31 @@ module _ (kept : Failing) (images : Images) (layout : Layout) (wants : List Want
     module _ (t : Target) (among : In t ts) (is : IsSought layout t) (checked : is_plain t.want ≡ false) where
       -- ---- blocks of full stripes
 
-      module _ (parity : mirrors t.chunk ≡ None) where
-        -- its chunk has parity, and no device is missing
-        whole : IsWholeChunk layout is.number t.chunk
-        whole = record { of = record { table = table; there = is.there; parity = parity }; own = own; given = none }
-
-        -- its row lies in the chunk's stripes
-        fits : t.at.row * 65536 + 65536 ≤ stripe_length t.chunk
-        fits = omega (arith, row_fits whole.of (addr_of t.want) is.held, ap (λ (e : Elements). e.row) is.at)
-
-        -- it is one of its row
-        mine : In t (row_of kept ts t.chunk t.at.row).blocks
-        mine = in_filter (is_in_row t.chunk t.at.row) t ts among
-            (and_from (eqb t.chunk.start t.chunk.start) (eqb t.at.row t.at.row) (eq-eqb t.chunk.start t.chunk.start refl) (eq-eqb t.at.row t.at.row refl))
-
-        -- so it can be had, where it can be spared
-        row_outlives : HasRightPlace images C t ⊎ HasFewWrongAt images layout C (row_of kept ts t.chunk t.at.row) t → (left : Images)
-            → KeepsOutside ranges images left → StandsFor left C t
-        row_outlives spared left keeps =
-            row_outlives_writes images left layout C kept ts (row_of kept ts t.chunk t.at.row) ranges t table own lengths
-            (is_row had lengths apart whole t.at.row fits) avoid keeps (sound_row had lengths apart whole t.at.row fits)
-            (right_passes had t is) spared mine checked
+      -- where it can be spared it can be had
+      row_outlives : mirrors t.chunk ≡ None → HasRightPlace images C t ⊎ HasFewWrongAt images layout C (row_of kept ts t.chunk t.at.row) t → (left : Images)
+          → KeepsOutside ranges images left → StandsFor left C t
+      row_outlives parity spared left keeps =
+          let whole : IsWholeChunk layout is.number t.chunk =
+          record { of = record { table = table; there = is.there; parity = parity }; own = own; given = none } in
+          let fits : t.at.row * 65536 + 65536 ≤ stripe_length t.chunk =
+          omega (arith, row_fits whole.of (addr_of t.want) is.held, ap (λ (e : Elements). e.row) is.at) in
+          let mine = in_filter (is_in_row t.chunk t.at.row) t ts among
+          (and_from (eqb t.chunk.start t.chunk.start) (eqb t.at.row t.at.row) (eq-eqb t.chunk.start t.chunk.start refl) (eq-eqb t.at.row t.at.row refl)) in
+          row_outlives_writes images left layout C kept ts (row_of kept ts t.chunk t.at.row) ranges t table own lengths
+          (is_row had lengths apart whole t.at.row fits) avoid keeps (sound_row had lengths apart whole t.at.row fits)
+          (right_passes had t is) spared mine checked
 
       -- ---- blocks with copies
 
-      -- a right copy isn't written
       module _ (n : ℕ) (has : mirrors t.chunk ≡ Some n) where
-        not_mended : (k : ℕ) (lt : k < n) → C t.want ≡ Some (element images t (Mirror k)) → (range : Range) (whole : range_of t (Mirror k) ≡ Some range)
-            → (slot off : ℕ) → covers slot off range ≡ true → list_any (covered_at slot off) (mending_writes images kept t) ≡ true → ⊥
-        not_mended k lt right range whole = not_over t among is n has k lt range whole (λ bytes gets i.
+        -- a right copy isn't written
+        not_mended : (k : ℕ) → C t.want ≡ Some (element images t (Mirror k)) → IsUnwritten t among is n has k
+        not_mended k right bytes gets i =
             let bad : In (Mirror k) (bad_parts images t) = subst (λ b. In (Mirror k) (cond b (stale_parts images kept t) (bad_parts images t))) checked i in
             let accepts : accepted images t ≡ Some bytes = sym (ap (λ b. cond b (renewed images kept t) (accepted images t)) checked) ∙ gets in
             both_ways (is_sound images t (Mirror k)) (not-true (is_sound images t (Mirror k))
             (passing_filter (λ part. not (is_sound images t part)) (Mirror k) (own_parts t) bad).1)
-            (right_is_sound had t among checked is (Mirror k) bytes accepts right))
+            (right_is_sound had t among checked is (Mirror k) bytes accepts right)
 
         -- so it can be had, where a place of its own is right
         copies_outlive : HasRightPlace images C t → (left : Images) → KeepsOutside ranges images left → StandsFor left C t
@@ -287,11 +265,10 @@ module _ (kept : Failing) (images : Images) (layout : Layout) (wants : List Want
             let lt = in_below n j.0 j.1 in
             let right : C t.want ≡ Some (element images t (Mirror j.0)) = a.2 ∙ ap (λ part. Some (element images t part)) (sym j.2) in
             let given = part_is_given layout t (Mirror j.0) table is (has_mirror t n j.0 has lt) none in
-            let r = some_of (range_of t (Mirror j.0)) given in
             any_in (λ c. (stands t c ≡ true) × (C t.want ≡ Some (value_of left t c))) (candidates t) (Read (Mirror j.0))
             (in_candidates t (Read (Mirror j.0)) (subst (In (Read (Mirror j.0))) (sym (with_copies t n has))
             (in_map (λ copy. Read (Mirror copy)) j.0 (range_with_len 0 n) j.1)))
-            (ap (λ b. b && true) given, right ∙ ap Some (sym (stays t among is n has j.0 lt r.0 r.1 (not_mended j.0 lt right r.0 r.1) left keeps)))
+            (ap (λ b. b && true) given, right ∙ ap Some (sym (stays t among is n has j.0 lt (not_mended j.0 right) left keeps)))
 
     -- ---- all blocks
 

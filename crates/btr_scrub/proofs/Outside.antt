@@ -1,10 +1,8 @@
 -- Whatever failed, nothing changes but the ranges of the writes.
-use Rattle.std.proofs.Common.{◌≡◌, ℕ, zero, suc, Bool, true, false, List, [], ◌∷◌, ◌++◌, map, All, Some, IsSomeAnd, Result, Ok, Err, refl, sym, ◌∙◌, ap, subst}
-use Rattle.std.proofs.Common.{inl, inr, arith}
-use Rattle.btr_scrub.proofs.Common.{Images, KeepsOutside, MendFault, Write, chunk_writes_for, list_any, listed_writes_for, or_parts, same_Some, write_on}
+use Rattle.std.proofs.Common.{◌≡◌, ℕ, zero, suc, Bool, true, false, List, [], ◌∷◌, ◌++◌, map, All, Result, Ok, Err, refl, sym, ◌∙◌, ap, subst, inl, inr, arith}
+use Rattle.btr_scrub.proofs.Common.{Images, KeepsOutside, MendFault, Range, Write, chunk_writes_for, list_any, listed_writes_for, or_parts, same_Some, write_on}
 use Rattle.btr_scrub.proofs.Common.{writes_if}
 use Rattle.std.specs.List.{fold}
-use Rattle.btr_rack.specs.declared.place.Place.{Place as Range}
 use Rattle.btr_scrub_copies.specs.Writes.{IsStopped, IsTorn, LeaveImages}
 use Rattle.btr_scrub.specs.Repair.{covers}
 use Rattle.btr_scrub.specs.Whole.{WorksKeepTheRest, listed_failing}
@@ -87,13 +85,8 @@ works_keep_the_rest layout write wants count old new t u result images left tabl
     by : (r : Result (Unit {0}) MendFault) → LeaveImages (λ images. writes_if write (listed_writes_for layout wants images)) old.held new.held r
         → KeepsOutside (ranges (listed_writes_for layout wants images)) images left
     by (Ok x) l =
-        let after : new.held ≡ Some (fold write_on images (writes_if write (listed_writes_for layout wants images))) =
-        subst (λ o. LeaveImages {A = Unit {0}} {E = MendFault} (λ images. writes_if write (listed_writes_for layout wants images)) o new.held (Ok x)) held l in
         subst (KeepsOutside (ranges (listed_writes_for layout wants images)) images)
-        (same_Some (fold write_on images (writes_if write (listed_writes_for layout wants images))) left (sym after ∙ is))
+        (same_Some (fold write_on images (writes_if write (listed_writes_for layout wants images))) left (sym (rw held at l) ∙ is))
         (shorts_keep_if write images (listed_writes_for layout wants images) shorts)
     by (Err e) l =
-        let stopped : IsSomeAnd new.held (IsStopped (writes_if write (listed_writes_for layout wants images)) images) =
-        subst (λ o. LeaveImages {A = Unit {0}} {E = MendFault} (λ images. writes_if write (listed_writes_for layout wants images)) o new.held (Err e)) held l in
-        stopped_if write images left (listed_writes_for layout wants images) shorts
-        (subst (λ o. IsSomeAnd o (IsStopped (writes_if write (listed_writes_for layout wants images)) images)) is stopped)
+        stopped_if write images left (listed_writes_for layout wants images) shorts (rw is at (rw held at l))

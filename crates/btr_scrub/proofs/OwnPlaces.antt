@@ -1,13 +1,10 @@
 -- The places at which something is wrong with a block are its own.
 use Rattle.std.proofs.Common.{◌≡◌, Bool, true, false, not, cond, List, [], ◌∷◌, map, Option, Some, None, ℕ, ap, subst, inl, inr, refl, ◌∙◌}
-use Rattle.btr_scrub.proofs.Common.{Failing, Images, Mirror, Part, Target, Write, bad_parts, copy_writes, fresh, is_plain, is_sound, is_stale, list_any}
-use Rattle.btr_scrub.proofs.Common.{mending_writes, mirrors, new_bytes, option_map, option_map_or, own_parts, passing_filter, range_of, range_with_len}
-use Rattle.btr_scrub.proofs.Common.{stale_beside, stale_parts, wrong_parts}
+use Rattle.btr_scrub.proofs.Common.{Failing, Images, In, Mirror, Part, Range, Target, Write, bad_parts, copy_writes, covers, fresh, is_plain, is_sound}
+use Rattle.btr_scrub.proofs.Common.{is_stale, list_any, mending_writes, mirrors, new_bytes, option_map, option_map_or, own_parts, passing_filter, range_of}
+use Rattle.btr_scrub.proofs.Common.{range_with_len, stale_beside, stale_parts, wrong_parts}
 use Rattle.btr_chunk.specs.declared.place.Part.TheVariants.{Slice}
-use Rattle.btr_scrub.specs.BlocksInRows.{In}
-use Rattle.btr_rack.specs.declared.place.Place.{Place as Range}
 use Rattle.btr_scrub_row.proofs.Settled.{mending_is}
-use Rattle.btr_scrub.specs.Repair.{covers}
 use Rattle.btr_scrub.proofs.Lists.{any_is, mapped, of_filter_map}
 
 -- a block with copies has those
@@ -16,11 +13,9 @@ own_copies t n has = ap (λ o. option_map_or (λ copies. map Mirror (range_with_
 
 -- one without has its slice alone
 pub own_slice : (t : Target) (q : Part) → mirrors t.chunk ≡ None → In q (own_parts t) → Slice t.at.index ≡ q
-own_slice t q none i = by (subst (λ o. In q (option_map_or (λ n. map Mirror (range_with_len 0 n)) o (Slice t.at.index ∷ []))) none i)
-  where
-    by : In q (Slice t.at.index ∷ []) → Slice t.at.index ≡ q
-    by (inl e) = e
-    by (inr h) = absurd h
+own_slice t q none i =
+    let only : In q (Slice t.at.index ∷ []) = subst (λ o. In q (option_map_or (λ n. map Mirror (range_with_len 0 n)) o (Slice t.at.index ∷ []))) none i in
+    elim only [ inl e ↦ e | inr none ↦ absurd none ]
 
 -- a stale place is one of its own
 pub stale_own : (fails : Failing) (images : Images) (t : Target) (part : Part) → In part (stale_parts images fails t) → In part (own_parts t)

@@ -65,18 +65,6 @@ module _ {T : Type 0} where
   made_full full full' page (Ok u) h grown refused long = subst AreFull (sym grown) (turned_full full page h long)
   made_full full full' page (Err e) h grown refused long = subst AreFull (sym refused) h
 
-  -- the items stay where a full page is turned
-  pub made_same : {E : Type 0} (full full' : List (Vec T Global)) (page next : Vec T Global) (result : Result (Unit {0}) E)
-      → OnOk result (full' ≡ full ++ page ∷ []) → next.items ≡ [] → OnOk result (items_in full' next.items ≡ items_in full page.items)
-  made_same full full' page next (Ok u) grown none = ap (λ xs. items_in xs next.items) grown ∙ ap (items_in (full ++ page ∷ [])) none ∙ turned full page
-  made_same full full' page next (Err e) grown none = tt
-
-  -- one more item stands behind all
-  pub pushed_on : {E : Type 0} (full : List (Vec T Global)) (last last' all : List T) (item : T) (result : Result (Unit {0}) E) → items_in full last
-      ≡ all → OnOk result (last' ≡ last ++ item ∷ []) → OnOk result (items_in full last' ≡ all ++ item ∷ [])
-  pushed_on full last last' all item (Ok u) is grown = ap (items_in full) grown ∙ pushed full last (item ∷ []) ∙ ap (λ xs. xs ++ item ∷ []) is
-  pushed_on full last last' all item (Err e) is grown = tt
-
   -- an item of a full page is read there
   pub page_read : (full : List (Vec T Global)) (last : List T) (page : Vec T Global) (i : ℕ) → AreFull full → slice_get full (i / 4096) ≡ Some page
       → slice_get (items_in full last) i ≡ slice_get page.items (i % 4096)
@@ -94,15 +82,6 @@ module _ {T : Type 0} where
   -- the items with those behind the pages, and without
   pub counted : (full : List (Vec T Global)) (last : List T) → length (items_in full last) ≡ length (items_in full []) + length last
   counted full last = ap length (pushed full [] last) ∙ length-append (items_in full []) last
-
-  -- where turning a page failed there are not more items
-  pub made_fewer : {E : Type 0} (full full' : List (Vec T Global)) (last next : List T) (result : Result (Unit {0}) E) → OnErr result (full' ≡ full)
-      → next ≡ [] → OnErr result (length (items_in full' next) ≤ length (items_in full last))
-  made_fewer full full' last next (Ok u) refused none = tt
-  made_fewer full full' last next (Err e) refused none =
-      let is : length (items_in full' next) ≡ length (items_in full []) =
-      ap (λ xs. length (items_in xs next)) refused ∙ ap (λ xs. length (items_in full xs)) none in
-      omega (arith, is, counted full last)
 
   -- there is one item more at most
   pub one_more : {E : Type 0} (full : List (Vec T Global)) (last last' : List T) (item : T) (result : Result (Unit {0}) E) (len : ℕ)

@@ -1,27 +1,15 @@
 -- Plain sectors of a chunk no image of which is behind are passed at once.
-use Rattle.std.proofs.Common.{◌≡◌, ℕ, ◌+◌, ◌<◌, Bool, true, false, cond, List, [], ◌∷◌, ◌++◌, slice_get, Some, Ok, refl, sym, ap, ◌∙◌, subst, inl, inr}
-use Rattle.std.proofs.Common.{IsSome, None, Option, arith}
+use Rattle.std.proofs.Common.{◌≡◌, ℕ, ◌+◌, ◌<◌, Bool, true, false, List, [], ◌∷◌, ◌++◌, slice_get, Some, Ok, refl, sym, ap, ◌∙◌, subst, inl, inr, IsSome, None}
+use Rattle.std.proofs.Common.{Option, arith}
 use Rattle.std.specs.List.{fold}
-use Rattle.btr_scrub.proofs.Common.{Chunk, Failing, HaveLengths, HaveOwnSlots, Images, IsOfScrub, IsTable, Layout, Scrubs, Seen, Tally, Target, Want, Write}
-use Rattle.btr_scrub.proofs.Common.{addr_of, alone, block_writes, count_site, counted, counted_plain, fresh_writes, freshened, has_behind, is_plain}
-use Rattle.btr_scrub.proofs.Common.{mended_of, mending_writes, mirrors, plain, sites_writes, sought_of, stood, targets, write_on, writes_if}
-use Rattle.btr_scrub.specs.BlocksInRows.{In}
+use Rattle.btr_scrub.proofs.Common.{Chunk, Failing, HaveLengths, HaveOwnSlots, Images, In, IsOfScrub, IsTable, Layout, Scrubs, Seen, Tally, Target, Want, Write}
+use Rattle.btr_scrub.proofs.Common.{addr_of, alone, count_site, counted_plain, has_behind, is_plain, mending_writes, mirrors, plain, sites_writes, sought_of}
+use Rattle.btr_scrub.proofs.Common.{stood, targets, write_on, writes_if}
 use Rattle.btr_scrub.specs.Listed.{PassesIf}
 use Rattle.btr_scrub.proofs.Blockwise.{IsNext, IsUnderway, next_block, underway_more}
 use Rattle.btr_scrub.proofs.Inert.{none_fresh, none_freshened, nothing}
+use Rattle.btr_scrub.proofs.Tallying.{same_tally}
 use Rattle.btr_scrub.proofs.Scrubbing.{held_after, scrubs_as, told, held_none, none_some, scrubs_none}
-
--- ---- what is a plain sector
-
--- what is written for a plain sector and counted, and for a checked block
-pub as_plain : (fails : Failing) (images : Images) (t : Target) → is_plain t.want ≡ true → mending_writes images fails t ≡ fresh_writes images fails t
-as_plain fails images t e = ap (λ b. cond b (fresh_writes images fails t) (block_writes images t)) e
-
--- a sector without a checksum is counted as one
-pub counts_as_plain : (fails : Failing) (images : Images) (write : Bool) (tally : Tally) (t : Target) → is_plain t.want ≡ true
-    → count_site fails images write tally t ≡ counted_plain tally (freshened images fails t write)
-counts_as_plain fails images write tally t e =
-    ap (λ b. cond b (counted_plain tally (freshened images fails t write)) (counted tally (mended_of images t write))) e
 
 -- ---- counts with nothing more
 
@@ -31,11 +19,8 @@ stood_twice n = grind arith
 
 -- to count nothing twice is to count it once
 pub counted_twice : (u : Tally) → counted_plain (counted_plain u nothing) nothing ≡ counted_plain u nothing
-counted_twice u =
-    ap (λ n. record { blocks = u.blocks; bad = n; repaired = stood (stood (u.repaired + 0) + 0); lost = u.lost; parity = u.parity; unchecked = u.unchecked })
-    (stood_twice u.bad)
-    ∙ ap (λ n. record { blocks = u.blocks; bad = stood (u.bad + 0); repaired = n; lost = u.lost; parity = u.parity; unchecked = u.unchecked })
-    (stood_twice u.repaired)
+counted_twice u = same_tally (counted_plain (counted_plain u nothing) nothing) (counted_plain u nothing) refl (stood_twice u.bad) (stood_twice u.repaired)
+    refl refl refl
 
 -- ---- a chunk no image of which is behind
 
@@ -65,12 +50,11 @@ module _ (fails : Failing) (layout : Layout) (write : Bool) (table : IsTable lay
 
     -- so nothing is written for it
     none_written : (images : Images) → mending_writes images fails t ≡ []
-    none_written images = as_plain fails images t is_sector ∙ none_fresh fails layout t n table next.is has inert_there images
+    none_written images = rw is_sector (none_fresh fails layout t n table next.is has inert_there images)
 
     -- and it is counted as nothing
     none_counted : (images : Images) (u : Tally) → count_site fails images write u t ≡ counted_plain u nothing
-    none_counted images u =
-        counts_as_plain fails images write u t is_sector ∙ ap (counted_plain u) (none_freshened fails layout t n table next.is has inert_there images write)
+    none_counted images u = rw is_sector (ap (counted_plain u) (none_freshened fails layout t n table next.is has inert_there images write))
 
     -- the counts with it stay as they are with another one
     pub settled : (p : Images → List Write) (c : Images → Tally → Tally) (m m' m'' : List Bool) (a b z : Seen) (tally tally' tally'' : Tally)
@@ -124,10 +108,8 @@ pub passed_if : {fails : Failing} {layout : Layout} {write : Bool} {chunk : Chun
     → ((images : Images) → a.held ≡ Some images → HaveLengths images layout) → (wanted : Bool) (new : List Want) (end : ℕ)
     → (wanted ≡ true → (has_behind layout.devices fails chunk ≡ false) × ((images : Images) → a.held ≡ Some images → counted_plain tally' nothing ≡ tally'))
     → end ≡ chunk.start + chunk.length → PassesIf wanted mid end new → IsUnderway fails layout write chunk wants new m m' a b tally tally'
-passed_if {fails} {layout} {write} {chunk} {wants} {m} {m'} {a} {b} {tally} {tally'} h table number there n copies own lengths false new end facts is p =
-    subst (λ ws. IsUnderway fails layout write chunk wants ws m m' a b tally tally') (sym p) h
-passed_if {fails} {layout} {write} {chunk} {wants} {m} {m'} {a} {b} {tally} {tally'} h table number there n copies own lengths true new end facts is p =
+passed_if h table number there n copies own lengths false new end facts is p = rw p h
+passed_if {fails} {layout} {write} h table number there n copies own lengths true new end facts is p =
     let q = facts refl in
-    some_passed fails layout write table number chunk there n copies q.0 p.past new
-    (subst (λ ws. IsUnderway fails layout write chunk wants ws m m' a b tally tally') p.split h) own lengths q.1 p.plain
+    some_passed fails layout write table number _ there n copies q.0 p.past new (rw p.split at h) own lengths q.1 p.plain
     (λ w i. subst (λ e. addr_of w < e) is (p.below w i))

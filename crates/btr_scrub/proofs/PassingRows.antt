@@ -1,10 +1,9 @@
 -- Full stripes that hold nothing but plain sectors, in a chunk no image of which is in doubt, are passed at once.
-use Rattle.std.proofs.Common.{◌≡◌, ℕ, ◌+◌, ◌*◌, ◌<◌, ◌≤◌, Bool, true, false, List, [], ◌∷◌, ◌++◌, length, Option, Some, None}
-use Rattle.std.proofs.Common.{refl, sym, ap, ◌∙◌, subst, inl, inr, arith, append_assoc, length-append}
-use Rattle.btr_scrub.proofs.Common.{Chunk, Failing, Images, Layout, MendedRow, Seen, Tally, Target, Want, alone, count_row, count_row_of, counted_row}
+use Rattle.std.proofs.Common.{◌≡◌, ℕ, ◌+◌, ◌*◌, ◌<◌, ◌≤◌, Bool, true, false, List, [], ◌∷◌, ◌++◌, length, Option, Some, None, refl, sym, ap, ◌∙◌, subst, inl}
+use Rattle.std.proofs.Common.{inr, arith, append_assoc, length-append}
+use Rattle.btr_scrub.proofs.Common.{Chunk, Failing, Images, In, Layout, MendedRow, Seen, Tally, Target, Want, alone, count_row, count_row_of, counted_row}
 use Rattle.btr_scrub.proofs.Common.{has_doubtful, in_either, is_in_row, is_plain, mended_row, passing_filter, plains_from, row_of, row_writes, rows_count}
 use Rattle.btr_scrub.proofs.Common.{targets, untouched}
-use Rattle.btr_scrub.specs.BlocksInRows.{In}
 use Rattle.btr_scrub.specs.Rowing.{IsInert, PassesRows, PassesTo, PassesUnless}
 use Rattle.btr_scrub.specs.declared.rowed.PlainRun.{PlainRun}
 use Rattle.btr_scrub.proofs.AcrossChunks.{row_is}
@@ -116,12 +115,11 @@ module _ {layout : Layout} {number : ℕ} {chunk : Chunk} (s : IsWholeChunk layo
       → RowsUnderway s kept wants write left m m' a b tally tally' → (doubtful : Bool) → (doubtful ≡ false → has_doubtful layout.devices kept chunk ≡ false)
       → ((images : Images) → a.held ≡ Some images → counted_row tally' untouched ≡ tally') → (new : List Want) → PassesUnless doubtful chunk left new
       → RowsUnderway s kept wants write new m m' a b tally tally'
-  rows_passed {write} {m} {m'} {a} {b} {tally} {tally'} h true sure still new p =
-      subst (λ ws. RowsUnderway s kept wants write ws m m' a b tally tally') (sym p) h
+  rows_passed h true sure still new p = rw p h
   rows_passed {write} {left} {m} {m'} {a} {b} {tally} {tally'} h false sure still new p = by p.0 p.1
     where
       by : (run : Option PlainRun) → PassesRows chunk left run new → RowsUnderway s kept wants write new m m' a b tally tally'
-      by None none = subst (λ ws. RowsUnderway s kept wants write ws m m' a b tally tally') (sym none) h
+      by None none = rw none h
       by (Some run) to = passed h (sure refl) still new run to
 
 -- nothing is left that wasn't before

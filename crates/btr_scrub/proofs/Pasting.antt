@@ -1,18 +1,14 @@
 -- Writes that have at most as many bytes as their ranges change nothing but those.
 use Rattle.std.proofs.Common.{◌≡◌, ◌⊎◌, ℕ, suc, ◌+◌, ◌<◌, ◌≤◌, Bool, true, false, ◌&&◌, leb, ltb, List, [], ◌∷◌, map, length, get_or, set, refl, sym, ap, ◌-◌}
 use Rattle.std.proofs.Common.{subst, ◌∙◌, inl, inr, arith, All}
-use Rattle.btr_scrub.proofs.Common.{Images, KeepsOutside, Write, cases_lt, eq-eqb, false_from_ne_true, false≢true, flat_map, image_of, le-leb, length-pasted}
-use Rattle.btr_scrub.proofs.Common.{list_any, lt-ltb, or_parts, pasted, write_on, writes_if}
+use Rattle.btr_scrub.proofs.Common.{Images, In, KeepsOutside, Range, Write, cases_lt, covers, eq-eqb, false_from_ne_true, false≢true, flat_map, fold, image_of}
+use Rattle.btr_scrub.proofs.Common.{le-leb, length-pasted, list_any, lt-ltb, or_parts, pasted, write_on, writes_if}
 use Rattle.std.proofs.lemmas.Bool.{cases_eq, or_from}
 use Rattle.std.proofs.lemmas.List.{length-set, get_or-set_same, get_or-set_other, set_past, get_or_past}
-use Rattle.std.specs.List.{fold}
 use Rattle.btr_rack.specs.Rack.{written}
-use Rattle.btr_rack.specs.declared.place.Place.{Place as Range}
 use Rattle.btr_scrub.specs.WrittenRanges.{WritesKeepTheRest}
-use Rattle.btr_scrub.specs.Repair.{covers}
 use Rattle.btr_scrub_row.proofs.Pasted.{pasted-outside, pasted-within}
 use Rattle.btr_scrub.proofs.Lists.{any_flat, any_map}
-use Rattle.btr_scrub.specs.BlocksInRows.{In}
 use Rattle.std.proofs.lemmas.List.Elements.{All-nil, All-append}
 use Rattle.btr_scrub.proofs.Places.{covering}
 

@@ -1,11 +1,9 @@
 -- Blocks that lie in a chunk of the table have a position.
-use Rattle.std.proofs.Common.{◌≡◌, ℕ, zero, suc, ◌+◌, ◌-◌, ◌*◌, ◌%◌, ◌<◌, ◌≤◌, true, false, cond, ◌&&◌, ltb, List, Some, Ok, Err, IsOk, refl, sym, ap, ◌∙◌}
-use Rattle.std.proofs.Common.{subst, arith}
+use Rattle.std.proofs.Common.{◌≡◌, ℕ, zero, suc, ◌+◌, ◌-◌, ◌*◌, ◌%◌, ◌<◌, ◌≤◌, false, ◌&&◌, ltb, List, Some, IsOk, sym, subst, arith}
 use Rattle.std.specs.Prelude.{slice_get}
 use Rattle.btr_scrub.proofs.Common.{AreUpTo, Chunk, IsFirstRefused, IsTable, Layout, Plain, TreeFault, Want, addr_of, chunk_at, crosses, facts}
-use Rattle.btr_scrub.proofs.Common.{false_from_ne_true, holds, is_striped, len_of, plains_from, position, sought, sought_at, sought_in}
+use Rattle.btr_scrub.proofs.Common.{false_from_ne_true, holds, is_striped, len_of, plains_from, sought}
 use Rattle.std.proofs.lemmas.Bool.{le-ltb, or_from, and_right}
-use Rattle.btr_chunk.specs.declared.mapping.MapFault.TheVariants as map_fault
 use Rattle.btr_chunk.proofs.Searches.{find-first}
 use Rattle.btr_scrub.specs.Judging.{ArePlaced}
 use Rattle.btr_scrub.specs.Listed.{PassesFrom}
@@ -25,14 +23,7 @@ module _ (layout : Layout) (table : IsTable layout.chunks) (number : ℕ) (chunk
   -- a block that doesn't cross has a position
   pub placed : (want : Want) → chunk.start ≤ addr_of want → addr_of want < chunk.start + chunk.length
       → crosses chunk (addr_of want) (len_of layout.setting want) ≡ false → IsOk (sought layout want)
-  placed want from to fine =
-      let at : sought layout want ≡ sought_at layout want chunk (cond true (cond false (Err map_fault.Crosses) (Ok (position chunk (addr_of want))))
-      (Err map_fault.Unmapped)) =
-      ap (sought_in layout want) (chunk_there (addr_of want) from to)
-      ∙ ap (λ b. sought_at layout want chunk (cond b (cond (crosses chunk (addr_of want) (len_of layout.setting want)) (Err map_fault.Crosses)
-      (Ok (position chunk (addr_of want)))) (Err map_fault.Unmapped))) (held_between chunk (addr_of want) from to)
-      ∙ ap (λ b. sought_at layout want chunk (cond true (cond b (Err map_fault.Crosses) (Ok (position chunk (addr_of want)))) (Err map_fault.Unmapped))) fine in
-      subst IsOk (sym at) refl
+  placed want from to fine = rw (chunk_there (addr_of want) from to, held_between chunk (addr_of want) from to, fine)
 
   -- a sector of the chunk doesn't cross an element
   pub sector_fits : (addr : ℕ) → addr % 4096 ≡ 0 → chunk.start ≤ addr → addr + 4096 ≤ chunk.start + chunk.length → crosses chunk addr 4096 ≡ false

@@ -1,18 +1,16 @@
 -- Each byte of a device is of one stripe, and of one element, at most.
 use Rattle.std.proofs.Common.{◌≡◌, ℕ, ◌+◌, ◌*◌, ◌<◌, ◌≤◌, true, ◌&&◌, eqb, leb, ltb, length, Option, Some, None, IsSome, IsSomeAnd, slice_get, refl, sym, ap}
 use Rattle.std.proofs.Common.{IfSome, is_some, cond, false, Bool, ◌∙◌, subst, arith}
-use Rattle.btr_scrub.proofs.Common.{Chunk, Device, Elements, HasPart, IsChunk, IsOfElement, IsPosition, IsTable, Layout, LiesInChunk, Part, Row, StripePlace}
-use Rattle.btr_scrub.proofs.Common.{and_from, and_parts, device_in, eq-eqb, eqb-true, facts, le-leb, leb-true, lt-ltb, place_at, placed_part, range_in}
-use Rattle.btr_scrub.proofs.Common.{range_in_element, range_on, range_stands, same_Some, slice_get_within, stands_on, stripe_length, stripe_of}
+use Rattle.btr_scrub.proofs.Common.{Chunk, Device, Elements, HasPart, IsChunk, IsOfElement, IsPosition, IsTable, Layout, LiesInChunk, Part, Range, Row, Stripe}
+use Rattle.btr_scrub.proofs.Common.{StripePlace, and_from, and_parts, covers, device_in, eq-eqb, eqb-true, facts, le-leb, leb-true, lt-ltb, placed_part}
+use Rattle.btr_scrub.proofs.Common.{range_in, range_in_element, range_on, range_stands, same_Some, slice_get_within, stands_on, stripe_length, stripe_of}
 use Rattle.std.proofs.lemmas.Bool.{ltb-true}
-use Rattle.btr_chunk.specs.declared.stripe.Stripe.{Stripe}
 use Rattle.btr_chunk.proofs.Rows.{stripe_of-same}
-use Rattle.btr_rack.specs.declared.place.Place.{Place as Range}
 use Rattle.btr_chunk.specs.Apart.{LiesIn}
 use Rattle.btr_chunk.proofs.Apart.{stripes_apart}
 use Rattle.btr_scrub.specs.Places.{ElementsApart}
-use Rattle.btr_scrub.specs.Repair.{covers}
 use Rattle.btr_read.specs.Cause.{LiesIn as LiesWithin}
+use Rattle.btr_scrub.proofs.Elements.{begins_at, start_of}
 use Rattle.btr_scrub.proofs.Lists.{any_at}
 
 -- the byte's place on its device, and in its element
@@ -93,21 +91,18 @@ is_at layout row part slot off table e =
     let chunk : IsChunk row.chunk = (table.sound e.number row.chunk e.there).0 in
     let position : IsPosition row.chunk at0 = record { index = e.position.index; inside = omega (arith, e.position.inside) } in
     let p = placed_part row.chunk part at0 chunk e.has position in
-    let place = place_at row.chunk part at0 in
-    let stands : IsSome (range_in_element layout row part 0 65536) =
-    is_some_of (range_in_element layout row part 0 65536) (λ range. covers slot off range ≡ true) e.covers in
-    let s = stands_on place.offset 65536 (device_in layout.devices place.devid) stands in
-    let is = range_stands place.offset 65536 (device_in layout.devices place.devid) s.device s.there s.within in
-    let c = covering slot off (range_in s.device.slot place.offset 65536) (subst (λ o. IsSomeAnd o (λ range. covers slot off range ≡ true)) is e.covers) in
+    let place = start_of row part in
+    let b = begins_at layout row part (is_some_of (range_in_element layout row part 0 65536) (λ range. covers slot off range ≡ true) e.covers) in
+    let c = covering slot off (range_in b.device.slot place.offset 65536) (rw b.whole at e.covers) in
     let offset : place.offset ≡ p.stripe.offset + row.number * 65536 + 0 = ap (λ (q : StripePlace). q.offset) p.place in
     let devid : place.devid ≡ p.stripe.devid = ap (λ (q : StripePlace). q.devid) p.place in
     let from : p.stripe.offset + row.number * 65536 ≤ off = omega (arith, offset, c.1) in
     let to : off < p.stripe.offset + row.number * 65536 + 65536 = omega (arith, offset, c.2) in
     record {
-      device = s.device;
+      device = b.device;
       stripe = p.stripe;
       stripe_there = p.there;
-      given = ap (device_in layout.devices) (sym devid) ∙ s.there;
+      given = ap (device_in layout.devices) (sym devid) ∙ b.given;
       same_slot = c.0;
       from = from;
       to = to;

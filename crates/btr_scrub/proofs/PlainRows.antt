@@ -1,28 +1,22 @@
 -- Plain sectors up to the start of a full stripe; where full stripes hold nothing else they are kept at once.
-use Rattle.std.proofs.Common.{◌≡◌, ℕ, zero, suc, ◌+◌, ◌-◌, ◌*◌, ◌^◌, ◌<◌, ◌≤◌, true, false, leb, ltb, List, ◌∷◌, ◌++◌, slice_get, Some, None}
-use Rattle.std.proofs.Common.{Result, Ok, refl, sym, ap, ◌∙◌, subst, inl, inr, arith, append_assoc}
-use Rattle.btr_scrub.proofs.Common.{AddsAll, AreApart, Chunk, Fault, HasRooms, Images, IsTable, KeptBlocks, Layout, Plain, SiftsNext, Target, Want, addr_of}
-use Rattle.btr_scrub.proofs.Common.{and_from, and_parts, chunk_at, eq-eqb, holds, in_either, in_left, in_right, is_copy_needed, is_in_row, is_needed}
-use Rattle.btr_scrub.proofs.Common.{is_plain, is_row_needed, le-leb, leb-true, lt-ltb, mended_row, mirrors, ok_or_none, plains_from, position, sought}
-use Rattle.btr_scrub.proofs.Common.{sought_of, stripe_length, targets}
-use Rattle.std.proofs.lemmas.Bool.{ltb-true}
-use Rattle.std.proofs.lemmas.List.Elements.{filter_map-append}
-use Rattle.btr_scrub.specs.BlocksInRows.{In}
-use Rattle.btr_scrub.specs.Rowing.{StartsRow}
-use Rattle.btr_scrub.proofs.Blockwise.{all_behind, of_targets}
+use Rattle.std.proofs.Common.{◌≡◌, ℕ, zero, suc, ◌+◌, ◌-◌, ◌*◌, ◌^◌, ◌<◌, ◌≤◌, true, false, List, ◌∷◌, ◌++◌, slice_get, Some, None, Result, Ok, refl, sym, ap}
+use Rattle.std.proofs.Common.{◌∙◌, subst, inl, inr, arith, append_assoc, OnOk, Option, ◌||◌, eqb}
+use Rattle.btr_scrub.proofs.Common.{AddsAll, AreApart, Chunk, HasRooms, Images, In, IsTable, KeptBlocks, Layout, Plain, SiftsNext, Target, Want, addr_of}
+use Rattle.btr_scrub.proofs.Common.{and_from, chunk_at, eq-eqb, holds, in_either, in_left, in_right, is_in_row, is_needed, is_plain, mended_row, mirrors}
+use Rattle.btr_scrub.proofs.Common.{plains_from, position, sought, sought_of, stripe_length, targets}
+use Rattle.btr_scrub.specs.Rowing.{StartsRow, AddsRun, KeepsRows, PassesRows, PassesTo}
+use Rattle.std.proofs.lemmas.Result.{on_ok_weaker}
+use Rattle.btr_scrub.proofs.Blockwise.{all_behind, of_targets, targets_both}
 use Rattle.btr_scrub.proofs.Reading.{all_below, all_plain}
-use Rattle.btr_scrub.proofs.RowNumbers.{IsParityChunk, at_row, held_row, row_fits, row_of_block, row_there, rows_rise, sought_each}
-use Rattle.std.proofs.Common.{OnOk, Option, Err, is_none, cond, ◌||◌, eqb}
+use Rattle.btr_scrub.proofs.RowNumbers.{IsParityChunk, at_row, held_row, row_fits, row_of_block, row_there, rows_rise, sought_each, tail_apart}
 use Rattle.btr_scrub.specs.Listed.{PassesFrom}
-use Rattle.btr_scrub.specs.Rowing.{AddsRun, KeepsRows, PassesRows, PassesTo}
 use Rattle.btr_scrub.specs.declared.rowed.PlainRun.{PlainRun}
 use Rattle.btr_scrub.specs.Sifting.{is_troubled, row_among}
 use Rattle.btr_scrub.specs.declared.sifted.Sifted.{Sifted}
 use Rattle.btr_scrub.proofs.Lists.{in_filter, is_any}
-use Rattle.btr_scrub.proofs.Positions.{find_at}
-use Rattle.btr_scrub.proofs.RowNumbers.{tail_apart}
+use Rattle.btr_scrub.proofs.Positions.{bounds_of, find_at, held_between}
 use Rattle.btr_scrub.proofs.Scrubbing.{tell}
-use Rattle.btr_scrub.proofs.Sieving.{in_targets, sifts_kept, sifts_then}
+use Rattle.btr_scrub.proofs.Sieving.{in_targets, needed_row, sifts_kept, sifts_then}
 
 -- what comes behind plain sectors begins where the last one ends, or later
 plains_behind : (layout : Layout) (n from end : ℕ) (rest : List Want) → 1 ≤ n → AreApart layout end (plains_from from n ++ rest)
@@ -55,8 +49,7 @@ passes_to chunk start end row run old mid new e p le starts some same fits = rec
 -- they were put behind a list
 pub kept_run : {E : Type 0} (r : Result (Unit {0}) E) (chunk : Chunk) (run : PlainRun) (old new : List Want) (before after : KeptBlocks)
     → PassesTo chunk old run new → OnOk r (AddsAll before after (plains_from run.addr run.count)) → OnOk r (KeepsRows chunk old new before after)
-kept_run (Err f) chunk run old new before after p adds = tt
-kept_run (Ok x) chunk run old new before after p adds = (Some run, p, adds)
+kept_run r chunk run old new before after p adds = on_ok_weaker r (λ a. (Some run, p, a)) adds
 
 -- plain sectors lie in rows of a chunk below one, and what comes behind them in that row or in later ones
 pub record LieBelow (layout : Layout) (chunk : Chunk) (run : PlainRun) (row : ℕ) (left new : List Want) : Type 0 where
@@ -74,7 +67,8 @@ lie_below {layout} {chunk} s end le left new all run p = record {
   below = λ t i.
       let w = of_targets layout t past i in
       let e = each w.0 w.1 in
-      let of = subst (λ (u : Target). (u.chunk ≡ chunk) × (u.at.row < p.row)) (same_ok e.0 t (sym e.1 ∙ w.2)) (e.2, e.3) in
+      let same : e.0 ≡ t = cc (sym e.1 ∙ w.2) in
+      let of = subst (λ (u : Target). (u.chunk ≡ chunk) × (u.at.row < p.row)) same (e.2, e.3) in
       (ap is_plain (sought_of layout w.0 t w.2).want_is ∙ all_plain run.count run.addr w.0 w.1, of.0, of.1);
   behind = behind;
   later = λ t i mine.
@@ -83,7 +77,7 @@ lie_below {layout} {chunk} s end le left new all run p = record {
       let ge = all_behind layout (run.addr + run.count * 4096) new behind w.0 w.1 in
       let rise = rows_rise s p.start (addr_of w.0) (omega (arith, p.reaches, ge)) in
       omega (arith, rise, at.1, begins.1);
-  from = let ge = leb-true chunk.start p.start inside.0 in omega (arith, ge, p.reaches);
+  from = omega (arith, inside.0, p.reaches);
   fits = let fits = row_fits s p.start begins.0 in omega (arith, fits, begins.1);
   rises = λ q ahead.
       let first = first_plain run.count run.addr p.some in
@@ -106,8 +100,8 @@ lie_below {layout} {chunk} s end le left new all run p = record {
     begins = row_there chunk p.start p.row p.starts.here
 
     -- it lies between the chunk's ends
-    inside : (leb chunk.start p.start ≡ true) × (ltb p.start (chunk.start + chunk.length) ≡ true)
-    inside = and_parts (leb chunk.start p.start) (ltb p.start (chunk.start + chunk.length)) begins.0
+    inside : (chunk.start ≤ p.start) × (p.start < chunk.start + chunk.length)
+    inside = bounds_of chunk p.start begins.0
 
     -- each lies in the chunk, in a row below
     each : (w : Want) → In w past → (t : Target) × (sought layout w ≡ Ok t) × (t.chunk ≡ chunk) × (t.at.row < p.row)
@@ -115,16 +109,11 @@ lie_below {layout} {chunk} s end le left new all run p = record {
         let e = sought_each layout end (past ++ new) apart w (in_left w past new i) in
         let lt = all_below run.count run.addr p.start w p.below i in
         let ge = all_behind layout end (past ++ new) apart w (in_left w past new i) in
-        let to = ltb-true p.start (chunk.start + chunk.length) inside.1 in
-        let held : holds chunk (addr_of w) ≡ true = and_from (leb chunk.start (addr_of w)) (ltb (addr_of w) (chunk.start + chunk.length))
-        (le-leb chunk.start (addr_of w) (omega (arith, le, ge))) (lt-ltb (addr_of w) (chunk.start + chunk.length) (omega (arith, lt, to))) in
+        let held = held_between chunk (addr_of w) (omega (arith, le, ge)) (omega (arith, lt, inside.1)) in
         let at = at_row s w e.0 (position chunk (addr_of w)).row e.1 (held_row chunk (addr_of w) held) in
         let rise = rows_rise s (addr_of w) (p.start - 1) (omega (arith, lt)) in
         let last = row_there chunk (p.start - 1) p.starts.last p.starts.before in
         (e.0, e.1, at.0, omega (arith, at.1, rise, last.1, p.starts.rises))
-
-    same_ok : (x y : Target) → ◌≡◌ {A = Result Target Fault} (Ok x) (Ok y) → x ≡ y
-    same_ok x y e = cc
 
     -- those behind them are apart from where the last one ends
     behind : AreApart layout (run.addr + run.count * 4096) new
@@ -143,7 +132,7 @@ module _ (layout : Layout) (table : IsTable layout.chunks) (chunk : Chunk) (pari
       let r = row_among (targets layout past) t in
       let here : is_in_row t.chunk t.at.row t ≡ true =
       and_from (eqb t.chunk.start t.chunk.start) (eqb t.at.row t.at.row) (eq-eqb t.chunk.start t.chunk.start refl) (eq-eqb t.at.row t.at.row refl) in
-      ap (λ o. cond (is_none o) (is_row_needed images layout r) (is_copy_needed images layout t)) (ap mirrors is.1 ∙ parity)
+      needed_row images layout t (targets layout past) t.chunk t.at.row refl refl (ap mirrors is.1 ∙ parity)
       ∙ ap (λ b. b || is_troubled (mended_row images layout r false))
       (is_any (λ (u : Target). is_plain u.want) t r.blocks (in_filter (is_in_row t.chunk t.at.row) t (targets layout past) i here) is.0)
 
@@ -153,13 +142,9 @@ module _ (layout : Layout) (table : IsTable layout.chunks) (chunk : Chunk) (pari
     abbrev mine : List Want
     mine = want ∷ s.more
 
-    -- the blocks of two lists of wants are those of both
-    both : (xs ys : List Want) → targets layout (xs ++ ys) ≡ targets layout xs ++ targets layout ys
-    both xs ys = filter_map-append (λ w. ok_or_none (sought layout w)) xs ys
-
     -- what is passed, or lies behind it, is of what was left
     in_all : (t : Target) → In t (targets layout past ++ targets layout new) → In t (targets layout left)
-    in_all t i = subst (λ ws. In t (targets layout ws)) (sym split) (subst (In t) (sym (both past new)) i)
+    in_all t i = subst (λ ws. In t (targets layout ws)) (sym split) (subst (In t) (sym (targets_both layout past new)) i)
 
     -- so they are kept with the row before them
     pub next_kept : SiftsNext layout held want old new x z
@@ -170,7 +155,7 @@ module _ (layout : Layout) (table : IsTable layout.chunks) (chunk : Chunk) (pari
           (sifts_kept layout held past y z s.sifts.can
           (tell held (λ images. (t : Target) → In t (targets layout past) → is_needed images layout (targets layout past) t ≡ true) (λ images e. needed images))
           adds sound nodesize (subst (λ r. HasRooms layout r.buffer) (sym room) s.sifts.can.rooms));
-      rows = λ t u i j same none eq. elim (in_either t (targets layout mine) (targets layout past) (subst (In t) (both mine past) i)) [
+      rows = λ t u i j same none eq. elim (in_either t (targets layout mine) (targets layout past) (subst (In t) (targets_both layout mine past) i)) [
         | inl k ↦ s.rows t u k (in_all u (in_right u (targets layout past) (targets layout new) j)) same none eq
         | inr k ↦ let is = lie.below t k in let l = lie.later u j (sym same ∙ is.1) in omega (arith, is.2, l, eq)
       ];
@@ -189,19 +174,12 @@ rows_kept layout table held want old mid new chunk x y z at parity apart s is ke
     of : IsParityChunk layout there.0 chunk
     of = record { table = table; there = there.1; parity = parity }
 
-    -- the wants are apart from the chunk's start on
-    from_start : AreApart layout chunk.start (want ∷ old)
-    from_start = (
-      leb-true chunk.start (addr_of want) (and_parts (leb chunk.start (addr_of want)) (ltb (addr_of want) (chunk.start + chunk.length)) there.2).0,
-      apart.1,
-      apart.2,
-    )
-
     by : (run : Option PlainRun) → PassesRows chunk mid run new → AddsRun y.kept z.kept run → SiftsNext layout held want old new x z
     by None none same =
         subst (λ ws. SiftsNext layout held want old ws x z) (sym none)
         (subst (λ (w : Sifted). SiftsNext layout held want old mid x w) (ap (λ k. record y { kept = k }) (sym same) ∙ sym is) s)
     by (Some run) p adds =
-        let tail = tail_apart layout chunk.start (want ∷ s.more) mid (subst (λ ws. AreApart layout chunk.start (want ∷ ws)) s.split from_start) in
+        let tail = tail_apart layout chunk.start (want ∷ s.more) mid (subst (λ ws. AreApart layout chunk.start (want ∷ ws)) s.split
+        ((bounds_of chunk (addr_of want) there.2).0, apart.1, apart.2)) in
         next_kept layout table chunk parity p.row run mid new p.split (lie_below of tail.0 tail.1 mid new tail.2 run p) held want old x y z s
         adds (ap (λ (w : Sifted). w.sound) is) (ap (λ (w : Sifted). w.nodesize) is) (ap (λ (w : Sifted). w.room) is)

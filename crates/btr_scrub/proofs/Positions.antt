@@ -1,28 +1,25 @@
 -- Where blocks with copies lie.
-use Rattle.std.proofs.Common.{◌≡◌, ℕ, zero, suc, ◌+◌, ◌-◌, ◌*◌, ◌/◌, ◌%◌, ◌<◌, ◌≤◌, Bool, true, false, cond, ◌&&◌, ◌||◌, leb, ltb, List, [], ◌∷◌, length}
-use Rattle.std.proofs.Common.{get_or, slice_get, Option, Some, None, IsSomeAnd, Ok, Err, refl, sym, ap, ◌∙◌, subst, arith}
+use Rattle.std.proofs.Common.{◌≡◌, ℕ, suc, ◌+◌, ◌-◌, ◌*◌, ◌/◌, ◌%◌, ◌<◌, ◌≤◌, Bool, true, false, cond, ◌&&◌, leb, ltb, List, [], ◌∷◌, length, slice_get, Option}
+use Rattle.std.proofs.Common.{Some, None, IsSomeAnd, Ok, Err, refl, sym, ap, ◌∙◌, subst, arith, inl, inr}
 use Rattle.btr_scrub.proofs.Common.{Chunk, Device, Elements, HasPart, HaveOwnSlots, IsChunk, IsPosition, IsSought, IsTable, Layout, LiesInChunk, LiesInStripe}
-use Rattle.btr_scrub.proofs.Common.{Mirror, Part, Profile, Raid5, Raid6, StripePlace, Target, Want, addr_of, alone, and_from, and_parts, chunk_at}
-use Rattle.btr_scrub.proofs.Common.{cons_option, crosses, data_count, device_in, holds, is_striped, le-leb, leb-true, len_of, lt-ltb, ltb-false, mirror_count}
-use Rattle.btr_scrub.proofs.Common.{or_parts, place_at, placed_part, position, range_of, same_Some, size_of, slice_get_within, sought, sought_at, sought_in}
-use Rattle.btr_scrub.proofs.Common.{stripe_length, stripe_of}
+use Rattle.btr_scrub.proofs.Common.{Mirror, Part, Profile, Raid5, Raid6, Range, Stripe, StripePlace, Target, Want, addr_of, alone, and_from, and_parts}
+use Rattle.btr_scrub.proofs.Common.{chunk_at, cons_option, covers, crosses, data_count, device_in, holds, is_striped, le-leb, leb-true, len_of, lt-ltb}
+use Rattle.btr_scrub.proofs.Common.{ltb-false, mirror_count, or_parts, place_at, placed_part, position, range_of, same_Some, size_of, slice_get_within, sought}
+use Rattle.btr_scrub.proofs.Common.{sought_at, sought_in, stripe_length, stripe_of}
 use Rattle.std.proofs.lemmas.Bool.{ltb-true}
 use Rattle.std.specs.List.{Any, find}
 use Rattle.btr_chunk.specs.Apart.{IsOfCopy}
 use Rattle.btr_chunk.specs.Mapping.{data_part, place_on}
 use Rattle.btr_chunk.specs.declared.mapping.MapFault.TheVariants as map_fault
-use Rattle.btr_chunk.specs.declared.profile.Profile.TheVariants.{Single, Dup, Raid0, Raid1, Raid1c3, Raid1c4, Raid10}
-use Rattle.btr_chunk.specs.declared.stripe.Stripe.{Stripe}
+use Rattle.btr_chunk.specs.declared.profile.Profile.TheVariants.{Raid0, Raid10}
 use Rattle.btr_chunk.proofs.Apart.{copies_apart}
 use Rattle.btr_chunk.proofs.Bytes.{IsPosition-position}
 use Rattle.btr_chunk.proofs.Rule.{data_count-mirrored, reaches-rows}
-use Rattle.btr_rack.specs.declared.place.Place.{Place as Range}
 use Rattle.btr_read.specs.Cause.{LiesIn}
 use Rattle.btr_read.specs.Mirror.{HasMirror}
 use Rattle.btr_scrub_copies.specs.Mending.{IsOfCopy as IsOfMirror}
-use Rattle.btr_scrub.specs.Repair.{covers}
 use Rattle.btr_scrub.proofs.Places.{covering, on_device, in_stripe_of}
-use Rattle.btr_scrub.proofs.Lists.{any_at}
+use Rattle.btr_scrub.proofs.Lists.{any_at, in_any}
 
 -- ---- addresses of a chunk
 
@@ -36,6 +33,20 @@ bounds_of chunk addr held =
 pub held_between : (chunk : Chunk) (addr : ℕ) → chunk.start ≤ addr → addr < chunk.start + chunk.length → holds chunk addr ≡ true
 held_between chunk addr from to =
     and_from (leb chunk.start addr) (ltb addr (chunk.start + chunk.length)) (le-leb chunk.start addr from) (lt-ltb addr (chunk.start + chunk.length) to)
+
+-- ---- blocks that cross nothing
+
+-- such a block ends in its chunk
+pub ends_within : (chunk : Chunk) (addr len : ℕ) → crosses chunk addr len ≡ false → addr + len ≤ chunk.start + chunk.length
+ends_within chunk addr len fine = ltb-false (chunk.start + chunk.length) (addr + len)
+    (or_parts (ltb (chunk.start + chunk.length) (addr + len)) (is_striped chunk.profile && ltb 65536 ((addr - chunk.start) % 65536 + len)) fine).0
+
+-- in a chunk with rows it ends in its own element
+pub striped_fits : (chunk : Chunk) (addr len : ℕ) → is_striped chunk.profile ≡ true → crosses chunk addr len ≡ false → (addr - chunk.start) % 65536
+    + len ≤ 65536
+striped_fits chunk addr len striped fine =
+    ltb-false 65536 ((addr - chunk.start) % 65536 + len) (or_parts (ltb (chunk.start + chunk.length) (addr + len))
+    (ltb 65536 ((addr - chunk.start) % 65536 + len)) (rw striped at fine)).1
 
 -- ---- what is sought
 
@@ -90,27 +101,15 @@ position_is layout t table is = subst (IsPosition t.chunk) (sym is.at) (IsPositi
 
 -- the part of a byte's own copy
 own_copy : (p : Profile) (n copy : ℕ) (at : Elements) → IsSomeAnd (mirror_count p n) (λ m. copy < m) → data_part p copy at ≡ Mirror copy
-own_copy Single n copy at h = refl
-own_copy Dup n copy at h = refl
-own_copy Raid0 n copy at h = refl
-own_copy Raid1 n copy at h = refl
-own_copy Raid1c3 n copy at h = refl
-own_copy Raid1c4 n copy at h = refl
-own_copy Raid10 n copy at h = refl
 own_copy Raid5 n copy at h = absurd h
 own_copy Raid6 n copy at h = absurd h
+own_copy p n copy at h = refl
 
 -- the stripe of a copy hangs on the element alone
 copy_stripe : (p : Profile) (n copy : ℕ) (at bt : Elements) → at.index ≡ bt.index → stripe_of p n (Mirror copy) at ≡ stripe_of p n (Mirror copy) bt
-copy_stripe Single n copy at bt e = refl
-copy_stripe Dup n copy at bt e = refl
 copy_stripe Raid0 n copy at bt e = e
-copy_stripe Raid1 n copy at bt e = refl
-copy_stripe Raid1c3 n copy at bt e = refl
-copy_stripe Raid1c4 n copy at bt e = refl
 copy_stripe Raid10 n copy at bt e = ap (λ i. 2 * i + copy) e
-copy_stripe Raid5 n copy at bt e = refl
-copy_stripe Raid6 n copy at bt e = refl
+copy_stripe p n copy at bt e = refl
 
 -- a byte behind another in one piece lies in the same element
 record IsBehind (at bt : Elements) (d : ℕ) : Type 0 where
@@ -132,23 +131,17 @@ place_in b k o = cond b (record { row = o / 65536 / k; index = o / 65536 % k; re
 -- so it is with the bytes of a block that crosses no element
 position_behind : (chunk : Chunk) (addr len d : ℕ) → chunk.start ≤ addr → crosses chunk addr len ≡ false → d < len
     → IsBehind (position chunk addr) (position chunk (addr + d)) d
-position_behind chunk addr len d from fine lt = by (is_striped chunk.profile) fine
+position_behind chunk addr len d from fine lt = by (is_striped chunk.profile) refl
   where
     -- bytes behind an address are as far behind its offset in the chunk
     offset : addr + d - chunk.start ≡ addr - chunk.start + d
     offset = omega (arith, from)
 
-    by : (b : Bool) → (ltb (chunk.start + chunk.length) (addr + len) || b && ltb 65536 ((addr - chunk.start) % 65536 + len)) ≡ false
-        → IsBehind (place_in b (data_count chunk.profile (length chunk.stripes)) (addr - chunk.start))
+    by : (b : Bool) → is_striped chunk.profile ≡ b → IsBehind (place_in b (data_count chunk.profile (length chunk.stripes)) (addr - chunk.start))
         (place_in b (data_count chunk.profile (length chunk.stripes)) (addr + d - chunk.start)) d
-    by true fine =
-        let small : (addr - chunk.start) % 65536 + len ≤ 65536 =
-        ltb-false 65536 ((addr - chunk.start) % 65536 + len) (or_parts (ltb (chunk.start + chunk.length) (addr + len))
-        (ltb 65536 ((addr - chunk.start) % 65536 + len)) fine).1 in
-        let k = data_count chunk.profile (length chunk.stripes) in
-        subst (λ o. IsBehind (place_in true k (addr - chunk.start)) (place_in true k o) d) (sym offset)
-        (rows_behind (addr - chunk.start) d k (omega (arith, small, lt)))
-    by false fine = record { row = refl; index = refl; rest = offset }
+    by true striped = rw offset (rows_behind (addr - chunk.start) d (data_count chunk.profile (length chunk.stripes))
+        (omega (arith, striped_fits chunk addr len striped fine, lt)))
+    by false mirrored = record { row = refl; index = refl; rest = offset }
 
 -- where a byte of a copy lies on its device
 pub record IsCopyByte (layout : Layout) (t : Target) (slot off : ℕ) : Type 0 where
@@ -192,10 +185,8 @@ is_of_copy layout t slot off table is b =
     let addr = addr_of t.want in
     let sound = (table.sound is.number t.chunk is.there).0 in
     let from = (bounds_of t.chunk addr is.held).0 in
-    let ends : addr + size_of t ≤ t.chunk.start + t.chunk.length = ltb-false (t.chunk.start + t.chunk.length) (addr + size_of t)
-    (or_parts (ltb (t.chunk.start + t.chunk.length) (addr + size_of t))
-    (is_striped t.chunk.profile && ltb 65536 ((addr - t.chunk.start) % 65536 + size_of t)) is.uncrossed).0 in
-    let there = held_between t.chunk (addr + b.behind) (omega (arith, from)) (omega (arith, ends, b.below)) in
+    let there = held_between t.chunk (addr + b.behind) (omega (arith, from))
+    (omega (arith, ends_within t.chunk addr (size_of t) is.uncrossed, b.below)) in
     let one = position t.chunk addr in
     let two = position t.chunk (addr + b.behind) in
     let same = position_behind t.chunk addr (size_of t) b.behind from is.uncrossed b.below in
@@ -257,31 +248,21 @@ pub record OnStripe (t : Target) (part : Part) : Type 0 where
 -- a block that crosses no element ends within the chunk's stripes
 reaches : (chunk : Chunk) (addr len : ℕ) → IsChunk chunk → holds chunk addr ≡ true → crosses chunk addr len ≡ false
     → (position chunk addr).row * 65536 + (position chunk addr).rest + len ≤ stripe_length chunk
-reaches chunk addr len sound held fine = by (is_striped chunk.profile) refl fine
+reaches chunk addr len sound held fine = by (is_striped chunk.profile) refl
   where
-    -- the address isn't before the chunk
-    from : chunk.start ≤ addr
-    from = (bounds_of chunk addr held).0
+    -- the address lies between the chunk's ends
+    between : (chunk.start ≤ addr) × (addr < chunk.start + chunk.length)
+    between = bounds_of chunk addr held
 
-    -- nor behind it
-    below : addr < chunk.start + chunk.length
-    below = (bounds_of chunk addr held).1
-
-    by : (b : Bool) → is_striped chunk.profile ≡ b → (ltb (chunk.start + chunk.length) (addr + len) || b && ltb 65536
-        ((addr - chunk.start) % 65536 + len)) ≡ false → (place_in b (data_count chunk.profile (length chunk.stripes)) (addr - chunk.start)).row *
+    by : (b : Bool) → is_striped chunk.profile ≡ b → (place_in b (data_count chunk.profile (length chunk.stripes)) (addr - chunk.start)).row *
         65536 + (place_in b (data_count chunk.profile (length chunk.stripes)) (addr - chunk.start)).rest + len ≤ stripe_length chunk
-    by true striped fine =
-        let small : (addr - chunk.start) % 65536 + len ≤ 65536 =
-        ltb-false 65536 ((addr - chunk.start) % 65536 + len) (or_parts (ltb (chunk.start + chunk.length) (addr + len))
-        (ltb 65536 ((addr - chunk.start) % 65536 + len)) fine).1 in
-        (reaches-rows chunk (addr - chunk.start) len sound striped (omega (arith, from, below)) small).inside
-    by false mirrored fine =
-        let ends : addr + len ≤ chunk.start + chunk.length =
-        ltb-false (chunk.start + chunk.length) (addr + len) (or_parts (ltb (chunk.start + chunk.length) (addr + len)) false fine).0 in
+    by true striped = (reaches-rows chunk (addr - chunk.start) len sound striped (omega (arith, between.0, between.1))
+        (striped_fits chunk addr len striped fine)).inside
+    by false mirrored =
         let k = data_count chunk.profile (length chunk.stripes) in
-        let one : k ≡ 1 = data_count-mirrored chunk.profile (length chunk.stripes) mirrored in
-        let whole : chunk.length / k ≡ chunk.length = ap (λ n. chunk.length / n) one ∙ omega arith in
-        omega (arith, from, ends, whole)
+        let whole : chunk.length / k ≡ chunk.length =
+        ap (λ n. chunk.length / n) (data_count-mirrored chunk.profile (length chunk.stripes) mirrored) ∙ omega arith in
+        omega (arith, between.0, ends_within chunk addr len fine, whole)
 
 -- each part of a block stands on a stripe of its chunk
 pub on_stripe : (layout : Layout) (t : Target) (part : Part) → IsTable layout.chunks → IsSought layout t
@@ -321,17 +302,17 @@ in_stripe layout t part range inner table is has e lies =
     any_at (λ chunk. LiesInChunk layout chunk inner) layout.chunks is.number t.chunk
     (slice_get_within layout.chunks is.number t.chunk is.there) is.there (part_in_chunk layout t part range inner table is has e lies)
 
+-- what holds of some of a list of one holds of that
+pub any_one : {X : Type 0} (P : X → Type 0) (x : X) → Any P (x ∷ []) → P x
+any_one P x a = let i = in_any P (x ∷ []) a in elim i.1 [ inl e ↦ subst P (sym e) i.2 | inr none ↦ absurd none ]
+
 -- a range lies in a stripe of a chunk, where that is the only one
 pub lies_alone : (layout : Layout) (chunk : Chunk) (range : Range) → LiesInChunk layout chunk range → LiesInStripe (alone layout chunk) range
 lies_alone layout chunk range h = any_at (λ c. LiesInChunk (alone layout chunk) c range) (chunk ∷ []) 0 chunk (omega arith) refl h
 
 -- what lies in a stripe of a chunk alone lies in this chunk
 pub alone_lies : (layout : Layout) (chunk : Chunk) (range : Range) → LiesInStripe (alone layout chunk) range → LiesInChunk layout chunk range
-alone_lies layout chunk range any = at any.0 any.1 any.2 any.3 any.4
-  where
-    at : (k : ℕ) (c : Chunk) → k < 1 → get_or (chunk ∷ []) k c ≡ c → LiesInChunk layout c range → LiesInChunk layout chunk range
-    at zero c lt same lies = subst (λ d. LiesInChunk layout d range) (sym same) lies
-    at (suc k) c lt same lies = absurd (omega (arith, lt))
+alone_lies layout chunk range any = any_one (λ c. LiesInChunk layout c range) chunk any
 
 -- a range in a copy of a block lies in a stripe of its chunk
 pub copy_in_stripe : (layout : Layout) (t : Target) (range : Range) → IsTable layout.chunks → IsSought layout t → IsOfMirror t range
@@ -340,19 +321,4 @@ copy_in_stripe layout t range table is h = lies_alone layout t.chunk range (by (
   where
     by : (o : Option Range) → range_of t (Mirror h.mirror) ≡ o → Any (LiesIn range) (cons_option o []) → LiesInChunk layout t.chunk range
     by None e a = absurd (omega (arith, a.2))
-    by (Some r) e a = at a.0 a.1 a.2 a.3 a.4
-      where
-        at : (k : ℕ) (x : Range) → k < 1 → get_or (r ∷ []) k x ≡ x → LiesIn range x → LiesInChunk layout t.chunk range
-        at zero x lt same lies = part_in_chunk layout t (Mirror h.mirror) r range table is h.has e (subst (LiesIn range) (sym same) lies)
-        at (suc k) x lt same lies = absurd (omega (arith, lt))
-
--- ---- chunks with rows
-
--- a block that crosses no element ends in its own
-pub striped_fits : (chunk : Chunk) (addr len : ℕ) → is_striped chunk.profile ≡ true → crosses chunk addr len ≡ false → (addr - chunk.start) % 65536
-    + len ≤ 65536
-striped_fits chunk addr len striped fine =
-    let both : (ltb (chunk.start + chunk.length) (addr + len) || true && ltb 65536 ((addr - chunk.start) % 65536 + len)) ≡ false =
-    ap (λ b. ltb (chunk.start + chunk.length) (addr + len) || b && ltb 65536 ((addr - chunk.start) % 65536 + len)) (sym striped) ∙ fine in
-    ltb-false 65536 ((addr - chunk.start) % 65536 + len) (or_parts (ltb (chunk.start + chunk.length) (addr + len))
-    (ltb 65536 ((addr - chunk.start) % 65536 + len)) both).1
+    by (Some r) e a = part_in_chunk layout t (Mirror h.mirror) r range table is h.has e (any_one (LiesIn range) r a)

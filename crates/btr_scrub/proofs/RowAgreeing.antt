@@ -1,22 +1,18 @@
 -- What is written for a full stripe hangs on the bytes of its elements alone.
-use Rattle.std.proofs.Common.{◌≡◌, ◌⊎◌, ℕ, ◌*◌, ◌<◌, Bool, false, not, cond, ◌&&◌, ◌||◌, eqb, List, [], ◌∷◌, ◌++◌, map, length, set, true, Some, None, IsNone}
-use Rattle.std.proofs.Common.{is_some, refl, sym, ap, ◌∙◌, subst, inl, inr}
-use Rattle.btr_scrub.proofs.Common.{Candidate, Failing, HasPart, Images, Layout, Part, Profile, Raid5, Raid6, Read, Row, Target, Write, accepted, and_parts}
-use Rattle.btr_scrub.proofs.Common.{bad_parts, block_writes, blocks_at, bytes_eq, candidates, counted, counted_plain, element_with, filter_map, flat_map}
-use Rattle.btr_scrub.proofs.Common.{fresh_writes, freshened, in_below, is_plain, list_any, mended_of, mending_writes, mirror_count, mirrors, new_bytes}
-use Rattle.btr_scrub.proofs.Common.{option_map, option_map_or, own_parts, parities, parity_p, parity_q, parity_writes, passing_filter, pasted}
-use Rattle.btr_scrub.proofs.Common.{range_in_element, range_with_len, renewed, row_writes, size_of, slice_count, slices_with, stale_parts, value_of}
-use Rattle.btr_scrub.proofs.Common.{without_copies}
+use Rattle.std.proofs.Common.{◌≡◌, ◌⊎◌, ℕ, ◌*◌, ◌<◌, Bool, false, not, ◌&&◌, ◌||◌, eqb, List, [], ◌∷◌, ◌++◌, map, length, true, Some, None, IsNone, is_some}
+use Rattle.std.proofs.Common.{refl, sym, ap, ◌∙◌, subst, inl, inr}
+use Rattle.btr_scrub.proofs.Common.{Candidate, Failing, HasPart, Images, In, Layout, Part, Profile, Raid5, Raid6, Range, Read, Row, Target, Write, and_parts}
+use Rattle.btr_scrub.proofs.Common.{blocks_at, candidates, element_with, filter_map, flat_map, in_below, is_plain, list_any, mending_writes, mirror_count}
+use Rattle.btr_scrub.proofs.Common.{mirrors, new_bytes, option_map_or, own_parts, parities, parity_writes, passing_filter, pasted, range_in_element}
+use Rattle.btr_scrub.proofs.Common.{range_with_len, row_writes, size_of, slice_count, slices_with, value_of, without_copies}
+use Rattle.std.proofs.Math.Path.{fun_ext}
 use Rattle.std.specs.List.{fold, list_all}
 use Rattle.btr_chunk.specs.declared.place.Part.TheVariants as part
-use Rattle.btr_rack.specs.declared.place.Place.{Place as Range}
 use Rattle.btr_read.specs.Candidates.{element, slices}
 use Rattle.btr_read.specs.Solution.{byte_lists, the_one}
 use Rattle.btr_read.specs.declared.candidate.Candidate.TheVariants.{ByP, ByQ, ByBoth}
 use Rattle.btr_scrub_row.specs.Rows as rows
-use Rattle.btr_scrub_row.specs.Rows.{column_of, differing, differs, is_decided, is_sure, is_surer, meets}
-use Rattle.btr_scrub_row.specs.Rows.{sector_write, slice_with, with_block}
-use Rattle.btr_scrub.specs.BlocksInRows.{In}
+use Rattle.btr_scrub_row.specs.Rows.{column_of, differing, differs, is_decided, is_sure, is_surer, meets, sector_write, slice_with, with_block}
 use Rattle.btr_scrub.proofs.Agreeing.{filter_map_same, filter_same, SiteAlike, site_alike}
 use Rattle.btr_scrub.proofs.Survival.{of_filter}
 use Rattle.btr_scrub.proofs.Lists.{mapped, of_filter_map}
@@ -29,6 +25,11 @@ use Rattle.btr_scrub.proofs.RowValues.{each_candidate}
 pub map_same : {X Y : Type 0} (f g : X → Y) (xs : List X) → ((x : X) → In x xs → f x ≡ g x) → map f xs ≡ map g xs
 map_same f g [] h = refl
 map_same f g (x ∷ xs) h = ap (λ y. y ∷ map f xs) (h x (inl refl)) ∙ ap (λ ys. g x ∷ ys) (map_same f g xs (λ y i. h y (inr i)))
+
+-- so it is of those that are made of a list
+pub map_mapped : {X Y Z : Type 0} (f : Y → Z) (g h : X → Y) (xs : List X) → ((x : X) → In x xs → f (g x) ≡ f (h x)) → map f (map g xs) ≡ map f (map h xs)
+map_mapped f g h [] e = refl
+map_mapped f g h (x ∷ xs) e = rw (e x (inl refl), map_mapped f g h xs (λ y i. e y (inr i)))
 
 -- so is what comes of all
 pub flat_same : {X Y : Type 0} (f g : X → List Y) (xs : List X) → ((x : X) → In x xs → f x ≡ g x) → flat_map f xs ≡ flat_map g xs
@@ -44,8 +45,7 @@ fold_same f g (x ∷ xs) y h = ap (λ z. fold f z xs) (h x (inl refl) y) ∙ fol
 pub flat_mapped : {X Y Z : Type 0} (f f' : Y → List Z) (g h : X → Y) (xs : List X) → ((x : X) → In x xs → f (g x) ≡ f' (h x))
     → flat_map f (map g xs) ≡ flat_map f' (map h xs)
 flat_mapped f f' g h [] e = refl
-flat_mapped f f' g h (x ∷ xs) e =
-    ap (λ zs. zs ++ flat_map f (map g xs)) (e x (inl refl)) ∙ ap (λ zs. f' (h x) ++ zs) (flat_mapped f f' g h xs (λ y i. e y (inr i)))
+flat_mapped f f' g h (x ∷ xs) e = rw (e x (inl refl), flat_mapped f f' g h xs (λ y i. e y (inr i)))
 
 -- so is one over what is mapped in two ways
 pub fold_mapped : {X Y Z : Type 0} (f f' : Z → Y → Z) (g h : X → Y) (xs : List X) (z : Z) → ((x : X) → In x xs → (z : Z) → f z (g x) ≡ f' z (h x))
@@ -81,9 +81,7 @@ module _ (images images' : Images) (t : Target) (none : mirrors t.chunk ≡ None
 
   -- what P gives for it is the same
   p_value : value_of images' t ByP ≡ value_of images t ByP
-  p_value = (
-      ap (λ ss. the_one (size_of t) (λ X. bytes_eq (parity_p (size_of t) (set ss t.at.index X)) (element images' t part.P))) same_slices
-      ∙ ap (λ p. the_one (size_of t) (λ X. bytes_eq (parity_p (size_of t) (set (slices images t) t.at.index X)) p)) same_p)
+  p_value = ap (the_one (size_of t)) (fun_ext (λ X. rw (same_slices, same_p)))
 
   module _ (six : t.chunk.profile ≡ Raid6) where
     -- its Q is the same
@@ -92,19 +90,11 @@ module _ (images images' : Images) (t : Target) (none : mirrors t.chunk ≡ None
 
     -- what Q gives for it is the same
     q_value : value_of images' t ByQ ≡ value_of images t ByQ
-    q_value = (
-        ap (λ ss. the_one (size_of t) (λ X. bytes_eq (parity_q (size_of t) (set ss t.at.index X)) (element images' t part.Q))) same_slices
-        ∙ ap (λ q. the_one (size_of t) (λ X. bytes_eq (parity_q (size_of t) (set (slices images t) t.at.index X)) q)) same_q)
+    q_value = ap (the_one (size_of t)) (fun_ext (λ X. rw (same_slices, same_q)))
 
     -- what both give for it, without another slice, is the same
     both_value : (j : ℕ) → value_of images' t (ByBoth j) ≡ value_of images t (ByBoth j)
-    both_value j = (
-        ap (λ ss. the_one (size_of t) (λ X. list_any (λ Y. bytes_eq (parity_p (size_of t) (set (set ss j Y) t.at.index X)) (element images' t part.P)
-        && bytes_eq (parity_q (size_of t) (set (set ss j Y) t.at.index X)) (element images' t part.Q)) (byte_lists (size_of t)))) same_slices
-        ∙ ap (λ p. the_one (size_of t) (λ X. list_any (λ Y. bytes_eq (parity_p (size_of t) (set (set (slices images t) j Y) t.at.index X)) p &&
-        bytes_eq (parity_q (size_of t) (set (set (slices images t) j Y) t.at.index X)) (element images' t part.Q)) (byte_lists (size_of t)))) same_p
-        ∙ ap (λ q. the_one (size_of t) (λ X. list_any (λ Y. bytes_eq (parity_p (size_of t) (set (set (slices images t) j Y) t.at.index X))
-        (element images t part.P) && bytes_eq (parity_q (size_of t) (set (set (slices images t) j Y) t.at.index X)) q) (byte_lists (size_of t)))) same_q)
+    both_value j = ap (the_one (size_of t)) (fun_ext (λ X. ap (λ f. list_any f (byte_lists (size_of t))) (fun_ext (λ Y. rw (same_slices, same_p, same_q)))))
 
   -- each candidate gives the same
   pub values : (c : Candidate) → In c (candidates t) → value_of images' t c ≡ value_of images t c
@@ -177,11 +167,10 @@ pub record RowAlike (images images' : Images) (layout : Layout) (row : Row) (als
 -- then the same is written for the full stripe
 pub row_writes_alike : (images images' : Images) (layout : Layout) (row : Row) (also : Failing) → RowAlike images images' layout row also
     → row_writes images' layout (beside also row) ≡ row_writes images layout row
-row_writes_alike images images' layout row also a =
-    ap (λ ws. ws ++ flat_map (parity_writes images' layout (beside also row)) (parities row.chunk.profile))
-    (flat_same (mending_writes images' also) (mending_writes images row.failing) row.blocks (λ t i. (a.blocks t i).writes))
-    ∙ ap (λ ws. flat_map (mending_writes images row.failing) row.blocks ++ ws)
-    (flat_same (parity_writes images' layout (beside also row)) (parity_writes images layout row) (parities row.chunk.profile) a.parities)
+row_writes_alike images images' layout row also a = rw (
+  flat_same (mending_writes images' also) (mending_writes images row.failing) row.blocks (λ t i. (a.blocks t i).writes),
+  flat_same (parity_writes images' layout (beside also row)) (parity_writes images layout row) (parities row.chunk.profile) a.parities,
+)
 
 module _ (images images' : Images) (layout : Layout) (row : Row) (also : Failing) (none : mirrors row.chunk ≡ None)
     (same : (q : Part) → HasPart row.chunk.profile (length row.chunk.stripes) q
@@ -196,10 +185,9 @@ module _ (images images' : Images) (layout : Layout) (row : Row) (also : Failing
   -- each slice with its blocks' bytes is the same
   slice_same : (k : ℕ) → k < rows.slice_count row → slice_with images' layout (new_bytes images' also) row k
       ≡ slice_with images layout (new_bytes images row.failing) row k
-  slice_same k lt =
-      ap (λ bytes. fold (with_block images' layout (new_bytes images' also)) bytes (blocks_at row k)) (same (part.Slice k) (subst IsNone (sym none) refl, lt))
-      ∙ fold_same (with_block images' layout (new_bytes images' also)) (with_block images layout (new_bytes images row.failing)) (blocks_at row k)
-      (rows.element images layout row (part.Slice k)) (λ t i bytes. given_same t (of_filter (λ u. eqb u.at.index k) t row.blocks i) bytes)
+  slice_same k lt = rw (same (part.Slice k) (subst IsNone (sym none) refl, lt))
+      (fold_same (with_block images' layout (new_bytes images' also)) (with_block images layout (new_bytes images row.failing)) (blocks_at row k)
+      (rows.element images layout row (part.Slice k)) (λ t i bytes. given_same t (of_filter (λ u. eqb u.at.index k) t row.blocks i) bytes))
 
   -- so are all the slices
   slices_same : slices_with images' layout (new_bytes images' also) row ≡ slices_with images layout (new_bytes images row.failing) row
@@ -209,19 +197,14 @@ module _ (images images' : Images) (layout : Layout) (row : Row) (also : Failing
   -- so are its parities
   with_same : (q : Part) → (q ≡ part.P) ⊎ (q ≡ part.Q) → element_with images' layout (new_bytes images' also) row q
       ≡ element_with images layout (new_bytes images row.failing) row q
-  with_same q (inl e) =
-      subst (λ q. element_with images' layout (new_bytes images' also) row q ≡ element_with images layout (new_bytes images row.failing) row q) (sym e)
-      (ap (parity_p 65536) slices_same)
-  with_same q (inr e) =
-      subst (λ q. element_with images' layout (new_bytes images' also) row q ≡ element_with images layout (new_bytes images row.failing) row q) (sym e)
-      (ap (parity_q 65536) slices_same)
+  with_same q (inl e) = rw (e, slices_same)
+  with_same q (inr e) = rw (e, slices_same)
 
   -- a column is decided in both, or in neither
   decided_same : (column : ℕ) → is_decided images' layout (beside also row) column ≡ is_decided images layout row column
   decided_same column =
-      ap (λ b. list_any (meets column) row.blocks && b)
-      (all_same (λ t. not (meets column t) || is_sure images' layout (beside also row) t) (λ t. not (meets column t) || is_sure images layout row t) row.blocks
-      (λ t i. ap (λ b. not (meets column t) || b) (sures t i)))
+      rw (all_same (λ t. not (meets column t) || is_sure images' layout (beside also row) t) (λ t. not (meets column t) || is_sure images layout row t)
+      row.blocks (λ t i. rw (sures t i)))
 
   -- so the same is written for a parity
   parity_same : (q : Part) → In q (parities row.chunk.profile) → parity_writes images' layout (beside also row) q ≡ parity_writes images layout row q
@@ -229,17 +212,12 @@ module _ (images images' : Images) (layout : Layout) (row : Row) (also : Failing
       let has = parity_has row.chunk.profile (length row.chunk.stripes) q none i in
       let wanted = with_same q has.1 in
       let old = same q has.0 in
-      let differ : (column : ℕ) → differs images' layout (beside also row) q column ≡ differs images layout row q column =
-      λ column. ap (λ xs. not (bytes_eq (column_of column xs) (column_of column (element_with images' layout (new_bytes images' also) row q)))) old
-      ∙ ap (λ xs. not (bytes_eq (column_of column (rows.element images layout row q)) (column_of column xs))) wanted in
       ap (filter_map (sector_write images' layout (beside also row) q))
       (filter_same (λ column. is_decided images' layout (beside also row) column && differs images' layout (beside also row) q column)
       (λ column. is_decided images layout row column && differs images layout row q column) (range_with_len 0 16)
-      (λ column _. ap (λ b. b && differs images' layout (beside also row) q column) (decided_same column)
-      ∙ ap (λ b. is_decided images layout row column && b) (differ column)))
+      (λ column _. rw (decided_same column, old, wanted)))
       ∙ filter_map_same (sector_write images' layout (beside also row) q) (sector_write images layout row q) (differing images layout row q)
-      (λ column _. ap (λ xs. option_map (λ (range : Range). record { range = range; bytes = column_of column xs })
-      (range_in_element layout row q (column * 4096) 4096)) wanted)
+      (λ column _. rw wanted)
 
   -- a row whose elements and blocks are the same
   pub row_alike : RowAlike images images' layout row also
@@ -254,21 +232,11 @@ sure_same images images' layout row t e = ap (λ o. is_some o || is_plain t.want
 
 -- what comes of a checked block doesn't hang on them
 pub checked_alike : (fails also : Failing) (images : Images) (t : Target) → is_plain t.want ≡ false → SiteAlike fails also images images t
-checked_alike fails also images t e = record {
-  writes = ap (λ b. cond b (fresh_writes images also t) (block_writes images t)) e
-      ∙ sym (ap (λ b. cond b (fresh_writes images fails t) (block_writes images t)) e);
-  wrong = ap (λ b. cond b (stale_parts images also t) (bad_parts images t)) e ∙ sym (ap (λ b. cond b (stale_parts images fails t) (bad_parts images t)) e);
-  bytes = ap (λ b. cond b (renewed images also t) (accepted images t)) e ∙ sym (ap (λ b. cond b (renewed images fails t) (accepted images t)) e);
-  lost = refl;
-  counts = λ write tally. ap (λ b. cond b (counted_plain tally (freshened images also t write)) (counted tally (mended_of images t write))) e
-      ∙ sym (ap (λ b. cond b (counted_plain tally (freshened images fails t write)) (counted tally (mended_of images t write))) e);
-}
+checked_alike fails also images t e = record { writes = rw e; wrong = rw e; bytes = rw e; lost = refl; counts = λ write tally. rw e }
 
 -- so what comes of a row without plain sectors doesn't either
 pub checked_row : (images : Images) (layout : Layout) (row : Row) (also : Failing) → mirrors row.chunk ≡ None
     → ((t : Target) → In t row.blocks → is_plain t.want ≡ false) → RowAlike images images layout row also
 checked_row images layout row also none checked =
     row_alike images images layout row also none (λ q has. refl) (λ t i. checked_alike row.failing also images t (checked t i))
-    (λ t i. ap (λ o. is_some o || is_plain t.want && is_surer images layout (beside also row) t) (checked_alike row.failing also images t (checked t i)).bytes
-    ∙ ap (λ b. is_some (new_bytes images row.failing t) || b && is_surer images layout (beside also row) t) (checked t i)
-    ∙ sym (ap (λ b. is_some (new_bytes images row.failing t) || b && is_surer images layout row t) (checked t i)))
+    (λ t i. rw ((checked_alike row.failing also images t (checked t i)).bytes, checked t i))

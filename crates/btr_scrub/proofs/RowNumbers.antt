@@ -1,14 +1,13 @@
 -- Which rows a chunk with parity has, and in which one a block lies.
 use Rattle.std.proofs.Common.{◌≡◌, ℕ, zero, suc, ◌+◌, ◌-◌, ◌*◌, ◌/◌, ◌%◌, ◌<◌, ◌≤◌, Bool, true, false, cond, ◌&&◌, eqb, List, [], ◌∷◌, ◌++◌, map, length}
 use Rattle.std.proofs.Common.{slice_get, Some, None, is_none, Ok, refl, sym, ap, ◌∙◌, subst, inl, inr, arith}
-use Rattle.btr_scrub.proofs.Common.{AreApart, Chunk, Elements, Failing, HaveOwnSlots, IsSought, IsTable, Layout, Row, Target, Want, addr_of, chunk_at}
-use Rattle.btr_scrub.proofs.Common.{data_count, eqb-true, facts, first_missing, holds, in_below, is_in_chunk, is_in_row, is_striped, len_of, mirrors}
-use Rattle.btr_scrub.proofs.Common.{position, range_with_len, row_of, rows_in, same_Some, sought, sought_of, stripe_length, without_copies}
+use Rattle.btr_scrub.proofs.Common.{AreApart, Chunk, Elements, Failing, HaveOwnSlots, In, IsSought, IsTable, Layout, Row, Target, Want, addr_of, chunk_at}
+use Rattle.btr_scrub.proofs.Common.{data_count, eqb-true, facts, first_missing, holds, in_below, is_in_chunk, is_in_row, is_striped, len_of, mirrors, position}
+use Rattle.btr_scrub.proofs.Common.{range_with_len, row_of, rows_in, same_Some, sought, sought_of, stripe_length, without_copies}
 use Rattle.std.proofs.lemmas.List.{map-append}
 use Rattle.std.proofs.lemmas.Nat.{le-div}
 use Rattle.std.proofs.Math.Nat.{div-mul-le_self}
 use Rattle.btr_chunk.proofs.Rule.{data_count-some, element_inside}
-use Rattle.btr_scrub.specs.BlocksInRows.{In}
 use Rattle.btr_scrub.specs.Rowing.{row_in}
 use Rattle.btr_scrub.proofs.Blockwise.{chunk_same, ok_of, with_one_start}
 use Rattle.btr_scrub.proofs.Positions.{is_sought, bounds_of}

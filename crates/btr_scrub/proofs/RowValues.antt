@@ -1,7 +1,7 @@
 -- What a candidate of a block in a full stripe gives is as long as the block.
 use Rattle.std.proofs.Common.{◌≡◌, ◌≢◌, ℕ, ◌+◌, ◌-◌, ◌<◌, ◌≤◌, Bool, true, false, cond, List, length, None, IsNone, All, refl, sym, ap, subst, inl, inr, arith}
-use Rattle.btr_scrub.proofs.Common.{Candidate, HasPart, Images, IsSlice, P, Part, Q, Raid5, Raid6, Read, Target, candidates, data_count, in_below, in_either}
-use Rattle.btr_scrub.proofs.Common.{mirrors, option_map_or, parity_p, parity_q, range_with_len, size_of, slice_count, value_of, without_copies}
+use Rattle.btr_scrub.proofs.Common.{Candidate, HasPart, Images, In, IsSlice, P, Part, Q, Raid5, Raid6, Read, Target, candidates, data_count, in_below}
+use Rattle.btr_scrub.proofs.Common.{in_either, mirrors, option_map_or, parity_p, parity_q, range_with_len, size_of, slice_count, value_of, without_copies}
 use Rattle.btr_chunk.specs.declared.place.Part.TheVariants.{Slice}
 use Rattle.btr_parity.specs.Slices.{zeros, plus}
 use Rattle.btr_parity.proofs.Folding.{quotient_is_one, pair_is_one}
@@ -11,7 +11,6 @@ use Rattle.btr_read.specs.Gathering.{read_slices}
 use Rattle.btr_read.specs.declared.candidate.Candidate.TheVariants.{ByP, ByQ, ByBoth}
 use Rattle.btr_read.proofs.Order.{in_ways}
 use Rattle.btr_read.proofs.Rebuilt.{at_slice, length-rs, by_p, by_q, by_both}
-use Rattle.btr_scrub.specs.BlocksInRows.{In}
 use Rattle.btr_scrub.proofs.RowNumbers.{in_range}
 use Rattle.btr_scrub.proofs.Lists.{of_mapped}
 

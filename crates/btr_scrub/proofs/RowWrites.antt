@@ -2,20 +2,14 @@
 use Rattle.std.proofs.Common.{◌≡◌, ℕ, ◌+◌, ◌-◌, ◌*◌, ◌<◌, ◌≤◌, true, false, List, [], length, drop, slice_get, All, Option, Some, None, IsNone, IsSome}
 use Rattle.std.proofs.Common.{IsSomeAnd, refl, sym, ap, ◌∙◌, subst, inl, inr, arith, length-take}
 use Rattle.std.proofs.lemmas.List.Elements.{All-append}
-use Rattle.btr_scrub.proofs.Common.{Device, Elements, HasPart, HaveLengths, Images, IsChunk, IsInRow, IsOfElement, IsPosition, IsSought, IsTable}
-use Rattle.btr_scrub.proofs.Common.{KeepsOutside, Layout, LiesInRow, Part, Row, StripePlace, Target, Write, addr_of, device_in, element_with, flat_map}
-use Rattle.btr_scrub.proofs.Common.{image_of, is_striped, list_any, mending_writes, mirrors, new_bytes, option_map_or, parities, parity_writes, place_at}
-use Rattle.btr_scrub.proofs.Common.{placed_part, range_in, range_in_element, range_of, range_on, range_stands, row_writes, same_Some, size_of, stands_on}
-use Rattle.btr_scrub.proofs.Common.{without_copies}
-use Rattle.btr_chunk.specs.Mapping.{place_on}
+use Rattle.btr_scrub.proofs.Common.{Elements, HasPart, HaveLengths, Images, In, IsChunk, IsInRow, IsOfElement, IsPosition, IsSought, IsTable, KeepsOutside}
+use Rattle.btr_scrub.proofs.Common.{Layout, LiesInRow, Part, Range, Row, Target, Write, addr_of, bytes_of, covers, device_in, element_with, flat_map, image_of}
+use Rattle.btr_scrub.proofs.Common.{is_striped, list_any, mending_writes, mirrors, new_bytes, option_map_or, parities, parity_writes, place_at, range_in}
+use Rattle.btr_scrub.proofs.Common.{range_in_element, range_of, range_on, range_stands, row_writes, same_Some, size_of, without_copies}
 use Rattle.btr_chunk.specs.declared.place.Part.TheVariants as part
-use Rattle.btr_rack.specs.Rack.{bytes_of}
-use Rattle.btr_rack.specs.declared.place.Place.{Place as Range}
 use Rattle.btr_scrub_row.specs.Rows as rows
-use Rattle.btr_scrub.specs.BlocksInRows.{In}
-use Rattle.btr_scrub.specs.Repair.{covers}
 use Rattle.btr_scrub.proofs.CopyWrites.{same_element}
-use Rattle.btr_scrub_row.proofs.Elements.{stripe-row}
+use Rattle.btr_scrub.proofs.Elements.{Begins, begins_at, lies_behind, start_of}
 use Rattle.btr_scrub.proofs.Places.{covered, covering}
 use Rattle.btr_scrub.proofs.Positions.{striped_fits, position_is}
 use Rattle.btr_chunk.proofs.Bytes.{striped-position}
@@ -55,76 +49,35 @@ module _ (layout : Layout) (row : Row) (table : IsTable layout.chunks) (is_row :
   sound : IsChunk row.chunk
   sound = (table.sound is_row.chunk_number row.chunk is_row.there).0
 
-  -- where an element begins, and on which device
-  pub record Begins (q : Part) : Type 0 where
-    pub device : Device
-    pub given : device_in layout.devices (place_at row.chunk q (record { row = row.number; index = 0; rest = 0 })).devid ≡ Some device
-    pub whole : range_in_element layout row q 0 65536 ≡ Some (range_in device.slot
-        (place_at row.chunk q (record { row = row.number; index = 0; rest = 0 })).offset 65536)
-    pub within : (place_at row.chunk q (record { row = row.number; index = 0; rest = 0 })).offset + 65536 ≤ device.len
-
   -- each element begins at a place on a device that is given
-  pub begins : (q : Part) → HasPart row.chunk.profile (length row.chunk.stripes) q → Begins q
-  begins q has =
-      let place = place_at row.chunk q (record { row = row.number; index = 0; rest = 0 }) in
-      let s = stands_on place.offset 65536 (device_in layout.devices place.devid) (is_row.stand q has) in
-      record {
-        device = s.device;
-        given = s.there;
-        whole = range_stands place.offset 65536 (device_in layout.devices place.devid) s.device s.there s.within;
-        within = s.within;
-      }
+  pub begins : (q : Part) → HasPart row.chunk.profile (length row.chunk.stripes) q → Begins layout row q
+  begins q has = begins_at layout row q (is_row.stand q has)
 
   -- a byte of an element
-  of_element : (q : Part) (has : HasPart row.chunk.profile (length row.chunk.stripes) q) (b : Begins q) (off : ℕ)
-      → (place_at row.chunk q (record { row = row.number; index = 0; rest = 0 })).offset ≤ off
-      → off < (place_at row.chunk q (record { row = row.number; index = 0; rest = 0 })).offset + 65536 → IsOfElement layout row q b.device.slot off
+  of_element : (q : Part) (has : HasPart row.chunk.profile (length row.chunk.stripes) q) (b : Begins layout row q) (off : ℕ)
+      → (start_of row q).offset ≤ off → off < (start_of row q).offset + 65536 → IsOfElement layout row q b.device.slot off
   of_element q has b off from to = record {
     number = is_row.chunk_number;
     there = is_row.there;
     parity = is_row.parity;
     position = is_row.position;
     has = has;
-    covers = subst (λ o. IsSomeAnd o (λ range. covers b.device.slot off range ≡ true)) (sym b.whole)
-        (covered b.device.slot (place_at row.chunk q (record { row = row.number; index = 0; rest = 0 })).offset 65536 off from to);
+    covers = rw b.whole (covered b.device.slot (start_of row q).offset 65536 off from to);
   }
-
-  -- what lies at a place in an element, from a byte of it on
-  record Lies (q : Part) (index rest : ℕ) : Type 0 where
-    devid : (place_at row.chunk q (record { row = row.number; index = index; rest = rest })).devid
-        ≡ (place_at row.chunk q (record { row = row.number; index = 0; rest = 0 })).devid
-    offset : (place_at row.chunk q (record { row = row.number; index = index; rest = rest })).offset
-        ≡ (place_at row.chunk q (record { row = row.number; index = 0; rest = 0 })).offset + rest
-
-  -- what is at a position of the row lies on its element's device, as far behind the element's start
-  lies : (q : Part) (index rest : ℕ) → HasPart row.chunk.profile (length row.chunk.stripes) q
-      → IsPosition row.chunk (record { row = row.number; index = index; rest = rest }) → Lies q index rest
-  lies q index rest has position =
-      let at0 : Elements = record { row = row.number; index = 0; rest = 0 } in
-      let at1 : Elements = record { row = row.number; index = index; rest = rest } in
-      let p = placed_part row.chunk q at0 sound has (record { index = is_row.position.index; inside = omega (arith, is_row.position.inside) }) in
-      let r = placed_part row.chunk q at1 sound has position in
-      let same : p.stripe ≡ r.stripe =
-      same_Some p.stripe r.stripe (sym p.there ∙ ap (slice_get row.chunk.stripes)
-      (stripe-row row.chunk.profile (length row.chunk.stripes) q at0 at1 is_row.parity refl) ∙ r.there) in
-      let one : place_at row.chunk q at1 ≡ place_on p.stripe at1 = r.place ∙ ap (λ s. place_on s at1) (sym same) in
-      let offset : (place_at row.chunk q at1).offset ≡ p.stripe.offset + row.number * 65536 + rest = ap (λ (x : StripePlace). x.offset) one in
-      let start : (place_at row.chunk q at0).offset ≡ p.stripe.offset + row.number * 65536 + 0 = ap (λ (x : StripePlace). x.offset) p.place in
-      record { devid = ap (λ (x : StripePlace). x.devid) one ∙ sym (ap (λ (x : StripePlace). x.devid) p.place); offset = omega (arith, offset, start) }
 
   -- where a range in an element lies on its device
   pub piece_is : (q : Part) (index rest len : ℕ) (range : Range) (has : HasPart row.chunk.profile (length row.chunk.stripes) q)
       → IsPosition row.chunk (record { row = row.number; index = index; rest = rest }) → rest + len ≤ 65536
       → range_on (place_at row.chunk q (record { row = row.number; index = index; rest = rest })).offset len
       (device_in layout.devices (place_at row.chunk q (record { row = row.number; index = index; rest = rest })).devid) ≡ Some range
-      → range ≡ range_in (begins q has).device.slot ((place_at row.chunk q (record { row = row.number; index = 0; rest = 0 })).offset + rest) len
+      → range ≡ range_in (begins q has).device.slot ((start_of row q).offset + rest) len
   piece_is q index rest len range has position fits e =
       let b = begins q has in
-      let l = lies q index rest has position in
+      let l = lies_behind row.chunk q (record { row = row.number; index = index; rest = rest }) sound is_row.parity has position in
       let place = place_at row.chunk q (record { row = row.number; index = index; rest = rest }) in
-      let given : device_in layout.devices place.devid ≡ Some b.device = ap (device_in layout.devices) l.devid ∙ b.given in
-      let stands = range_stands place.offset len (device_in layout.devices place.devid) b.device given (omega (arith, b.within, l.offset, fits)) in
-      same_Some range (range_in b.device.slot place.offset len) (sym e ∙ stands) ∙ ap (λ o. range_in b.device.slot o len) l.offset
+      let given : device_in layout.devices place.devid ≡ Some b.device = ap (device_in layout.devices) l.0 ∙ b.given in
+      let stands = range_stands place.offset len (device_in layout.devices place.devid) b.device given (omega (arith, b.within, l.1, fits)) in
+      same_Some range (range_in b.device.slot place.offset len) (sym e ∙ stands) ∙ ap (λ o. range_in b.device.slot o len) l.1
 
   -- a byte of a range in an element is of the element
   in_element : (q : Part) (index rest len slot off : ℕ) (range : Range) → HasPart row.chunk.profile (length row.chunk.stripes) q
@@ -134,9 +87,8 @@ module _ (layout : Layout) (row : Row) (table : IsTable layout.chunks) (is_row :
       → covers slot off range ≡ true → IsOfElement layout row q slot off
   in_element q index rest len slot off range has position fits e c =
       let b = begins q has in
-      let start = (place_at row.chunk q (record { row = row.number; index = 0; rest = 0 })).offset in
-      let at = covering slot off (range_in b.device.slot (start + rest) len)
-      (ap (covers slot off) (sym (piece_is q index rest len range has position fits e)) ∙ c) in
+      let at = covering slot off (range_in b.device.slot ((start_of row q).offset + rest) len)
+      (rw (piece_is q index rest len range has position fits e) at c) in
       subst (λ s. IsOfElement layout row q s off) at.0 (of_element q has b off (omega (arith, at.1)) (omega (arith, at.2, fits)))
 
   -- ---- blocks of the row
@@ -235,13 +187,12 @@ module _ (layout : Layout) (row : Row) (table : IsTable layout.chunks) (is_row :
     parity_short q has = all_from (Short images) (parity_writes images layout row q) (λ w i.
         let s = is_sector images layout row q w i in
         let b = begins q has in
-        let at0 : Elements = record { row = row.number; index = 0; rest = 0 } in
         let same = piece_is q 0 (s.column * 4096) 4096 w.range has (column_at s.column s.few) (omega (arith, s.few)) s.range in
         let bytes = element_with images layout (new_bytes images row.failing) row q in
-        let off : w.range.off ≡ (place_at row.chunk q at0).offset + s.column * 4096 = ap (λ (r : Range). r.off) same in
+        let off : w.range.off ≡ (start_of row q).offset + s.column * 4096 = ap (λ (r : Range). r.off) same in
         let len : w.range.len ≡ 4096 = ap (λ (r : Range). r.len) same in
         let image : length (image_of images w.range.slot) ≡ b.device.len =
-        ap (λ (r : Range). length (image_of images r.slot)) same ∙ lengths (place_at row.chunk q at0).devid b.device b.given in
+        ap (λ (r : Range). length (image_of images r.slot)) same ∙ lengths (start_of row q).devid b.device b.given in
         record {
           short = omega (arith, len, ap length s.bytes, length-take (s.column * 4096 + 4096 - s.column * 4096) (drop (s.column * 4096) bytes));
           within = omega (arith, off, len, image, b.within, s.few);
@@ -270,8 +221,8 @@ module _ (layout : Layout) (row : Row) (table : IsTable layout.chunks) (is_row :
         elements q has =
             let b = begins q has in
             let slot = b.device.slot in
-            let off = (place_at row.chunk q (record { row = row.number; index = 0; rest = 0 })).offset in
-            let long = lengths (place_at row.chunk q (record { row = row.number; index = 0; rest = 0 })).devid b.device b.given in
+            let off = (start_of row q).offset in
+            let long = lengths (start_of row q).devid b.device b.given in
             ap (λ (o : Option Range). option_map_or (λ range. bytes_of images' range.slot range.off range.len) o []) b.whole
             ∙ range_same (image_of images' slot) (image_of images slot) off (off + 65536) (omega (arith, b.within, long, keeps.lengths slot))
             (sym (keeps.lengths slot)) (λ i from to. keeps.bytes slot i (free q slot i (of_element q has b i from to)))

@@ -1,13 +1,11 @@
 -- The full stripes of a chunk with parity, one after another.
-use Rattle.std.proofs.Common.{◌≡◌, ℕ, ◌+◌, ◌-◌, ◌/◌, ◌<◌, ◌≤◌, Bool, true, List, [], ◌∷◌, ◌++◌, map, Some, ◌≢◌, Result, Ok, Err}
-use Rattle.std.proofs.Common.{refl, sym, ap, ◌∙◌, subst, inl, inr, arith, append_assoc, append-nil}
+use Rattle.std.proofs.Common.{◌≡◌, ℕ, ◌+◌, ◌-◌, ◌/◌, ◌<◌, ◌≤◌, Bool, true, List, [], ◌∷◌, ◌++◌, map, Some, ◌≢◌, Result, Ok, Err, refl, sym, ap, ◌∙◌, subst, inl}
+use Rattle.std.proofs.Common.{inr, arith, append_assoc, append-nil}
 use Rattle.std.proofs.lemmas.Grind.{flat_map-append}
-use Rattle.btr_scrub.proofs.Common.{AreApart, BeginsBehind, Chunk, Failing, HaveLengths, Images, IsOfScrub, IsPastChunk, Layout, Memory, MendFault, MendedRow}
-use Rattle.btr_scrub.proofs.Common.{Row, Scrubs, Seen, Tally, Target, Want, addr_of, alone, cons_option, count_row, counted_row, filter, holds, in_either}
-use Rattle.btr_scrub.proofs.Common.{in_left, is_in_row, len_of, mended_row, ok_or_none, plain, position, range_with_len, row_of, row_writes, rows_count}
-use Rattle.btr_scrub.proofs.Common.{rows_in, rows_writes, stood, stripe_length, targets, untouched, write_on, writes_if}
-use Rattle.std.specs.List.{fold}
-use Rattle.btr_scrub.specs.BlocksInRows.{In}
+use Rattle.btr_scrub.proofs.Common.{AreApart, BeginsBehind, Chunk, Failing, HaveLengths, Images, In, IsOfScrub, IsPastChunk, Layout, Memory, MendFault}
+use Rattle.btr_scrub.proofs.Common.{MendedRow, Row, Scrubs, Seen, Tally, Target, Want, addr_of, alone, cons_option, count_row, counted_row, filter, fold, holds}
+use Rattle.btr_scrub.proofs.Common.{in_either, in_left, is_in_row, len_of, mended_row, ok_or_none, plain, position, range_with_len, row_of, row_writes}
+use Rattle.btr_scrub.proofs.Common.{rows_count, rows_in, rows_writes, stood, stripe_length, targets, untouched, write_on, writes_if}
 use Rattle.btr_scrub.specs.Rowing.{BeginsElse, Collects, row_in}
 use Rattle.btr_scrub.proofs.Blockwise.{all_behind, of_targets, apart_past, target_sought, targets_both}
 use Rattle.btr_scrub.proofs.RowNumbers.{IsWholeChunk, all_rows, at_row, held_row, row_fits, row_is_not, row_of_block, row_there, rows_rise, rows_split, rows_to}

@@ -1,12 +1,10 @@
 -- A filesystem whose blocks can all be had again is safe at any write.
 use Rattle.std.proofs.Common.{◌≡◌, ◌⊎◌, ◌<◌, true, false, not, List, map, None, IsSome, IfSome, sym, ap, subst, inl, inr}
-use Rattle.btr_scrub.proofs.Common.{AreApart, HaveLengths, HaveOwnSlots, Images, IsSlice, IsTable, KeepsOutside, Layout, Target, Want, Write, all_at}
+use Rattle.btr_scrub.proofs.Common.{AreApart, HaveLengths, HaveOwnSlots, Images, In, IsSlice, IsTable, KeepsOutside, Layout, Range, Target, Want, Write, all_at}
 use Rattle.btr_scrub.proofs.Common.{all_writes_for, fresh, is_checked, is_plain, mirrors, not-true, passing_filter, row_of, rows_in, size_of, targets}
 use Rattle.btr_scrub.proofs.Common.{wants_among}
-use Rattle.btr_rack.specs.declared.place.Place.{Place as Range}
 use Rattle.btr_read.specs.Fate.{fate}
 use Rattle.btr_scrub.specs.Filesystem.{Filesystem}
-use Rattle.btr_scrub.specs.BlocksInRows.{In}
 use Rattle.btr_scrub.specs.Repair.{blocks, failed, met, ranges, rows, sites}
 use Rattle.btr_scrub.specs.Right.{AreBytes, CanBeSpared, Committed, HasFewWrongAt, HasRightPlace, IsOfStale, IsOfWrongParity, IsOfWrongPlace, IsCommitted}
 use Rattle.btr_scrub.specs.Right.{IsWrongRange, RangesLeaveFresh, RangesLieInWrong, RangesMayHoldAnything, StandsFor}

@@ -1,8 +1,8 @@
 -- A scan of extents, item by item.
-use Rattle.std.proofs.Common.{◌≡◌, ℕ, true, false, List, [], ◌++◌, Option, Ok, Err, refl, sym, ap, ◌∙◌, subst, append-nil}
+use Rattle.std.proofs.Common.{◌≡◌, ℕ, true, false, List, [], ◌++◌, Option, Ok, Err, sym, ap, ◌∙◌, subst, append-nil}
 use Rattle.btr_base.specs.declared.key.Key.{Key}
-use Rattle.btr_scrub.proofs.Common.{Blocks, Chunk, Extent, Follows, Map, Mark, Meeting, Met, SameLoans, Scan, Super, TreeFault, TreeItem, TreeRoot}
-use Rattle.btr_scrub.proofs.Common.{UnreadBlock, Want, bind, exec, exec-bind, extent_met, no_part, steps_of, without_leaf}
+use Rattle.btr_scrub.proofs.Common.{Blocks, Chunk, Extent, Follows, Map, Mark, Meeting, Met, SameLoans, Scan, Super, TreeFault, TreeItem, TreeRoot, UnreadBlock}
+use Rattle.btr_scrub.proofs.Common.{Want, bind, exec, exec-bind, extent_met, no_part, steps_of, without_leaf}
 use Rattle.btr_prog.specs.Answers.{Halt}
 use Rattle.btr_prog.specs.Prog.{prepend, want_marks, wants_of}
 use Rattle.btr_prog.proofs.Follow.{follows_alone, follows_behind, follows_halt}
@@ -36,11 +36,6 @@ same_layout old new scan scan' s = sym (base_layout new (loan_of scan'.leaf)) �
 -- a scan over the same keys is on the same place
 pub on_as : (lo hi lo' hi' : Key) (B : Map) (ws : List Want) (place : ScanPlace) → lo' ≡ lo → hi' ≡ hi → IsOn lo hi B ws place → IsOn lo' hi' B ws place
 on_as lo hi lo' hi' B ws place same_lo same_hi on = subst (λ l. IsOn l hi' B ws place) (sym same_lo) (subst (λ h. IsOn lo h B ws place) (sym same_hi) on)
-
-module _ (s : Super) (sums : Option TreeRoot) (chunk : Chunk) (B : Map) (store : Blocks) (scan : Scan) where
-  -- nothing yet
-  pub between_none : IsOn scan.lo scan.hi B [] scan.place → Between s sums chunk B store store scan scan 0 []
-  between_none on = record { before = []; is = refl; steps = refl; on = on }
 
 module _ {s : Super} {sums : Option TreeRoot} {chunk : Chunk} {B : Map} {store old : Blocks} {scan at : Scan} {end : ℕ} {done : List Met}
     (b : Between s sums chunk B store old scan at end done) where

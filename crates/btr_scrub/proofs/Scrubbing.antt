@@ -1,13 +1,15 @@
 -- Mending one thing after another.
-use Rattle.std.proofs.Common.{◌≡◌, ◌⊎◌, Bool, true, false, List, [], ◌++◌, length, Option, Some, None, IfSome, OnOk, is_none, is_some, Result, Ok, Err}
-use Rattle.std.proofs.Common.{IsErrAnd, refl, sym, ap, ◌∙◌, subst, inl, inr, arith}
-use Rattle.btr_scrub.proofs.Common.{AccountsMend, Blocks, CanMend, Image, Images, IsOfScrub, IsTable, Layout, LiesInStripe, Memory, MendFault, Mended}
-use Rattle.btr_scrub.proofs.Common.{OnlyReads, SameLoans, Scrubs, Seen, Serves, Tally, Target, Write, false≢true, first_missing, plain, reads_more, same_Some}
-use Rattle.btr_scrub.proofs.Common.{waiting, write_on, writes_if}
-use Rattle.std.specs.List.{count_by, fold}
-use Rattle.btr_rack.specs.declared.place.Place.{Place as Range}
+use Rattle.std.proofs.Common.{◌≡◌, ◌⊎◌, Bool, true, false, List, ◌++◌, length, Option, Some, None, IfSome, OnOk, is_none, is_some, Result, Ok, Err, IsErrAnd}
+use Rattle.std.proofs.Common.{[], refl, sym, ap, ◌∙◌, subst, inl, inr, arith, cond}
+use Rattle.btr_scrub.proofs.Common.{AccountsMend, Blocks, CanMend, Failing, Image, Images, IsOfScrub, IsTable, Layout, LiesInStripe, Memory, MendFault, Mended}
+use Rattle.btr_scrub.proofs.Common.{OnlyReads, Range, SameLoans, Scrubs, Seen, Serves, Tally, Target, Write, count_site, counted, counted_plain, false≢true}
+use Rattle.btr_scrub.proofs.Common.{first_missing, fold, freshened, is_plain, mended_of, mending_writes, plain, reads_more, same_Some, waiting, write_on}
+use Rattle.btr_scrub.proofs.Common.{writes_if}
+use Rattle.std.specs.List.{count_by}
+use Rattle.btr_rack.proofs.Reading.{reads_none}
 use Rattle.btr_scrub_copies.specs.Mending.{IsOfCopy}
-use Rattle.btr_scrub_copies.specs.Writes.{AreWritable, DoesWrites, In, LeaveImages}
+use Rattle.btr_scrub.specs.Scrubbing.{RepairsSite, counted_site}
+use Rattle.btr_scrub_copies.specs.Writes.{AreAmong, AreWritable, DoesWrites, In, LeaveImages}
 use Rattle.btr_scrub_copies.specs.Syncing.{Strands}
 use Rattle.btr_scrub_copies.specs.Turns.{WaitsAt}
 use Rattle.btr_scrub_copies.proofs.Doing.{does_as, does_as_halt, does_failed, does_halt, does_reads, does_then}
@@ -31,30 +33,16 @@ tell (Some images) Q h = h images refl
 -- ---- what was done
 
 -- what failed at places failed at any that hold them
-account_weaker : {A : Type 0} (P Q : Range → Type 0) (a b : Seen) (r : Result A MendFault) → ((range : Range) → P range → Q range)
+pub account_weaker : {A : Type 0} (P Q : Range → Type 0) (a b : Seen) (r : Result A MendFault) → ((range : Range) → P range → Q range)
     → AccountsMend P a b r → AccountsMend Q a b r
-account_weaker P Q a b (Ok x) weak h = h
 account_weaker P Q a b (Err (Image slot)) weak h = record { place = h.place; failed = h.failed; on_slot = h.on_slot; lies = weak h.place h.lies }
-account_weaker P Q a b (Err Memory) weak h = h
+account_weaker P Q a b r weak h = h
 
--- what was done at places was done at any that hold them
-pub does_weaker : {A : Type 0} (P Q : Range → Type 0) (f : Images → List Write) (m n : List Bool) (a b : Seen) (r : Result A MendFault)
-    → ((range : Range) → P range → Q range) → DoesWrites P f m n a b r → DoesWrites Q f m n a b r
-does_weaker P Q f m n a b r weak h =
-    record {
-      ranges = h.ranges;
-      only = h.only;
-      own = h.own;
-      lie = λ range i. weak range (h.lie range i);
-      marked = h.marked;
-      held = h.held;
-      account = account_weaker P Q a b r weak h.account;
-    }
-
--- what waits at some places
-pub waits_weaker : (P Q : Range → Type 0) (a b : Seen) → ((range : Range) → P range → Q range) → WaitsAt P a b → WaitsAt Q a b
-waits_weaker P Q a b weak h range i = elim (h range i) as (λ _. In range (waiting a) ⊎ Q range) [
-  | inl j ↦ inl j
+-- what waits at some places behind a call waits at any that hold them, and behind it and those before, behind which no more waited
+pub waits_weaker : (P Q : Range → Type 0) (a b z : Seen) → AreAmong (waiting b) (waiting a) → ((range : Range) → P range → Q range) → WaitsAt P b z
+    → WaitsAt Q a z
+waits_weaker P Q a b z among weak h range i = elim (h range i) as (λ _. In range (waiting a) ⊎ Q range) [
+  | inl j ↦ inl (among range j)
   | inr p ↦ inr (weak range p)
 ]
 
@@ -223,13 +211,13 @@ module _ (layout : Layout) (write : Bool) where
   pub scrubs_idle : {A : Type 0} (count : Tally → Tally) (marks : List Bool) (a : Seen) (t : Tally) (x : A)
       → Scrubs {A = A} layout write (λ i. []) (λ i. count) marks marks a a t (count t) (Ok x)
   scrubs_idle count marks a t x = record {
-    does = recast (does_reads (IsOfScrub layout) [] (plain a) (plain a) x (record { same = refl; later = omega arith; same_shut = refl })
+    does = recast (does_reads (IsOfScrub layout) [] (plain a) (plain a) x (reads_none (plain a))
         (record { faults = refl; fresh = refl; missed = refl; last = refl; opening = refl; shut = refl })) (λ images e. none write);
     waits = λ range i. inl i;
     marked = λ all. all;
     stranded = refl;
     counts = tell a.held (λ images. count t ≡ count t) (λ images e. refl);
-    unwritten = λ w. record { same = refl; later = omega arith; same_shut = refl };
+    unwritten = λ w. reads_none a;
   }
     where
       none : (b : Bool) → [] ≡ writes_if b []
@@ -254,54 +242,60 @@ pub scrubs_nothing : (layout : Layout) (write : Bool) (marks : List Bool) (a : S
     → Scrubs {A = Unit {0}} layout write (λ i. []) (λ i y. y) marks marks a a t t (Err Memory)
 scrubs_nothing layout write marks a t = record {
   does = does_failed (IsOfScrub layout) (Unit {0}) (Unit {0}) (λ i. writes_if write []) [] (plain a) (plain a) Memory
-      (record { same = refl; later = omega arith; same_shut = refl })
+      (reads_none (plain a))
       (record { faults = refl; fresh = refl; missed = refl; last = refl; opening = refl; shut = refl });
   waits = λ range i. inl i;
   marked = λ all. all;
   stranded = refl;
   counts = tt;
-  unwritten = λ w. record { same = refl; later = omega arith; same_shut = refl };
+  unwritten = λ w. reads_none a;
 }
 
 -- ---- a block or a plain sector
 
 -- what was done for it by its copies, and counted
-module _ (layout : Layout) (write : Bool) (t : Target) (f : Images → List Write) (count : Images → Mended) (into : Tally → Mended → Tally) (m n : List Bool)
-    (a b : Seen) (in_stripe : (range : Range) → IsOfCopy t range → LiesInStripe layout range) where
+module _ (layout : Layout) (fails : Failing) (t : Target) (in_stripe : (range : Range) → IsOfCopy t range → LiesInStripe layout range) where
   -- the writes for it, if writing is on
-  abbrev the_writes : Images → List Write
-  the_writes images = writes_if write (f images)
-
-  -- a place of one of its copies is a place of a scrub
-  abbrev in_scrub : (range : Range) → IsOfCopy t range → IsOfScrub layout range
-  in_scrub range of = inr (in_stripe range of)
+  abbrev the_writes : Bool → Images → List Write
+  the_writes write images = writes_if write (mending_writes images fails t)
 
   -- it was mended to its end
-  pub scrubs_one : (tally tally' : Tally) (mended : Mended) → DoesWrites (IsOfCopy t) the_writes m n a b (Ok mended)
-      → IfSome a.held (λ images. mended ≡ count images) → (write ≡ false → OnlyReads a b) → tally' ≡ into tally mended
-      → Scrubs {A = Unit {0}} layout write f (λ images tally. into tally (count images)) m n a b tally tally' (Ok tt)
-  scrubs_one tally tally' mended does counts unwritten e = record {
-    does = does_value (IsOfScrub layout) the_writes [] [] (plain a) (plain b) mended tt
-        (does_plain (IsOfCopy t) (IsOfScrub layout) the_writes m n a b (Ok mended) in_scrub does);
-    waits = waits_weaker (IsOfCopy t) (LiesInStripe layout) a b in_stripe (waits_at (IsOfCopy t) the_writes m n a b (Ok mended) does);
-    marked = marked_after (IsOfCopy t) the_writes m n a b (Ok mended) does;
-    stranded = strands_none {A = Unit {0}} (Ok tt) a.never_synced b.never_synced (same_never (IsOfCopy t) the_writes m n a b (Ok mended) does);
-    counts = tell a.held (λ images. tally' ≡ into tally (count images))
-        (λ images held. e ∙ ap (into tally) (told a.held (λ images. mended ≡ count images) images held counts));
-    unwritten = unwritten;
+  pub scrubs_site : {write : Bool} {m n : List Bool} {a b : Seen} {tally tally' : Tally} {mended : Mended} → RepairsSite fails t write m n a b (Ok mended)
+      → tally' ≡ counted_site (is_plain t.want) tally mended → Scrubs {A = Unit {0}} layout write (λ images. mending_writes images fails t)
+      (λ images tally. count_site fails images write tally t) m n a b tally tally' (Ok tt)
+  scrubs_site {write} {m} {n} {a} {b} {tally} {tally'} {mended} h e = record {
+    does = does_value (IsOfScrub layout) (the_writes write) [] [] (plain a) (plain b) mended tt
+        (does_plain (IsOfCopy t) (IsOfScrub layout) (the_writes write) m n a b (Ok mended) (λ range of. inr (in_stripe range of)) h.does);
+    waits = waits_weaker (IsOfCopy t) (LiesInStripe layout) a a b (λ range i. i) in_stripe
+        (waits_at (IsOfCopy t) (the_writes write) m n a b (Ok mended) h.does);
+    marked = marked_after (IsOfCopy t) (the_writes write) m n a b (Ok mended) h.does;
+    stranded = strands_none {A = Unit {0}} (Ok tt) a.never_synced b.never_synced (same_never (IsOfCopy t) (the_writes write) m n a b (Ok mended) h.does);
+    counts = tell a.held (λ images. tally' ≡ count_site fails images write tally t) (λ images held.
+        e ∙ ap (counted_site (is_plain t.want) tally) (told a.held
+        (λ images. mended ≡ cond (is_plain t.want) (freshened images fails t write) (mended_of images t write)) images held h.counts)
+        ∙ by (is_plain t.want) (freshened images fails t write) (mended_of images t write));
+    unwritten = h.unwritten;
   }
+    where
+      -- what is counted, each by its own counts
+      by : (b : Bool) (x y : Mended) → counted_site b tally (cond b x y) ≡ cond b (counted_plain tally x) (counted tally y)
+      by true x y = refl
+      by false x y = refl
 
   -- or a call failed
-  pub scrubs_not : (tally : Tally) (fault : MendFault) → DoesWrites {A = Mended} (IsOfCopy t) the_writes m n a b (Err fault) → (write ≡ false → OnlyReads a b)
-      → Scrubs {A = Unit {0}} layout write f (λ images tally. into tally (count images)) m n a b tally tally (Err fault)
-  scrubs_not tally fault does unwritten = record {
-    does = does_fault {A = Mended} {B = Unit {0}} (IsOfScrub layout) the_writes [] [] (plain a) (plain b) fault
-        (does_plain {A = Mended} (IsOfCopy t) (IsOfScrub layout) the_writes m n a b (Err fault) in_scrub does);
-    waits = waits_weaker (IsOfCopy t) (LiesInStripe layout) a b in_stripe (waits_at {A = Mended} (IsOfCopy t) the_writes m n a b (Err fault) does);
-    marked = marked_after {A = Mended} (IsOfCopy t) the_writes m n a b (Err fault) does;
-    stranded = strands_none {A = Unit {0}} (Err fault) a.never_synced b.never_synced (same_never {A = Mended} (IsOfCopy t) the_writes m n a b (Err fault) does);
+  pub scrubs_not : {write : Bool} {m n : List Bool} {a b : Seen} {tally : Tally} {fault : MendFault} → RepairsSite fails t write m n a b (Err fault)
+      → Scrubs {A = Unit {0}} layout write (λ images. mending_writes images fails t) (λ images tally. count_site fails images write tally t) m n a b
+      tally tally (Err fault)
+  scrubs_not {write} {m} {n} {a} {b} {fault = fault} h = record {
+    does = does_fault {A = Mended} {B = Unit {0}} (IsOfScrub layout) (the_writes write) [] [] (plain a) (plain b) fault
+        (does_plain {A = Mended} (IsOfCopy t) (IsOfScrub layout) (the_writes write) m n a b (Err fault) (λ range of. inr (in_stripe range of)) h.does);
+    waits = waits_weaker (IsOfCopy t) (LiesInStripe layout) a a b (λ range i. i) in_stripe
+        (waits_at {A = Mended} (IsOfCopy t) (the_writes write) m n a b (Err fault) h.does);
+    marked = marked_after {A = Mended} (IsOfCopy t) (the_writes write) m n a b (Err fault) h.does;
+    stranded = strands_none {A = Unit {0}} (Err fault) a.never_synced b.never_synced
+        (same_never {A = Mended} (IsOfCopy t) (the_writes write) m n a b (Err fault) h.does);
     counts = tt;
-    unwritten = unwritten;
+    unwritten = h.unwritten;
   }
 
 -- ---- what can be mended can be mended again

@@ -1,18 +1,15 @@
 -- The writes for a block have at most as many bytes as their ranges.
 use Rattle.std.proofs.Common.{◌≡◌, ℕ, ◌+◌, ◌-◌, ◌≤◌, Bool, true, false, cond, List, [], ◌∷◌, length, drop, All, Option, nat_lt, Some, None, refl, ap, subst}
 use Rattle.std.proofs.Common.{inl, inr, arith, length-take}
-use Rattle.btr_scrub.proofs.Common.{Candidate, Failing, HaveLengths, Images, IsSought, Layout, Part, Read, Target, accepted, candidates, device_in, fresh}
-use Rattle.btr_scrub.proofs.Common.{image_of, is_plain, mending_writes, new_bytes, option_map_or, place_at, range_in, range_on, same_Some, size_of}
+use Rattle.btr_scrub.proofs.Common.{Candidate, Failing, HaveLengths, Images, In, IsSought, Layout, Part, Range, Read, Target, accepted, candidates, device_in}
+use Rattle.btr_scrub.proofs.Common.{fresh, image_of, is_plain, mending_writes, new_bytes, option_map_or, place_at, range_in, range_on, same_Some, size_of}
 use Rattle.btr_scrub.proofs.Common.{stale_parts, stands, value_of}
 use Rattle.std.specs.List.{find}
 use Rattle.std.specs.Option.{unwrap_or}
 use Rattle.btr_rack.specs.Rack.{bytes_of}
-use Rattle.btr_rack.specs.declared.place.Place.{Place as Range}
 use Rattle.btr_read.specs.Candidates.{element}
 use Rattle.btr_read.specs.Solution.{byte_lists, the_one}
-use Rattle.btr_read.specs.declared.candidate.Candidate.TheVariants.{ByP, ByQ, ByBoth}
 use Rattle.btr_read.proofs.Ones.{all_slices}
-use Rattle.btr_scrub.specs.BlocksInRows.{In}
 use Rattle.btr_scrub.proofs.CopyWrites.{first_of, fresh_from, is_there}
 use Rattle.btr_scrub.proofs.Pasting.{Short}
 use Rattle.btr_scrub.proofs.OwnPlaces.{is_over}
@@ -57,9 +54,7 @@ element_short images t part = by (device_in t.devices (place_at t.chunk part t.a
 -- what a candidate gives is no longer than the block
 value_short : (images : Images) (t : Target) (c : Candidate) → length (value_of images t c) ≤ size_of t
 value_short images t (Read part) = element_short images t part
-value_short images t ByP = the_one_short (size_of t) _
-value_short images t ByQ = the_one_short (size_of t) _
-value_short images t (ByBoth j) = the_one_short (size_of t) _
+value_short images t c = the_one_short (size_of t) _
 
 -- what is accepted for a block is no longer than it
 accepted_short : (images : Images) (t : Target) (bytes : List ℕ) → accepted images t ≡ Some bytes → length bytes ≤ size_of t

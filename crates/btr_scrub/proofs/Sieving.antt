@@ -1,38 +1,35 @@
 -- Blocks are sifted one after another.
 use Rattle.std.proofs.Common.{◌≡◌, ℕ, ◌+◌, Bool, true, false, cond, ◌||◌, leb, ltb, List, [], ◌∷◌, ◌++◌, length, Option, Some, None, is_none, IsSome, Result}
 use Rattle.std.proofs.Common.{Ok, Err, refl, sym, ap, ◌∙◌, ◌⊎◌, ◌≢◌, get_or, slice_get, subst, inl, inr, arith, zero, suc, is_some, ◌*◌, ◌^◌, ◌<◌, ◌≤◌, not}
-use Rattle.std.proofs.Common.{◌&&◌, IfSome, drop, append_assoc, append-nil, length-append}
+use Rattle.std.proofs.Common.{◌&&◌, IfSome, drop, append_assoc, append-nil}
 use Rattle.std.proofs.Math.Nat.{suc-mul}
-use Rattle.btr_scrub.proofs.Common.{AccountsMend, AddsAll, AreApart, AreOfKind, AreUpTo, CanSift, Chunk, Fault, Gathered, HasKeptOf, HasRooms, Image, Images}
-use Rattle.btr_scrub.proofs.Common.{IsFirstRefused, IsList, IsSought, IsTable, KeptBlocks, Layout, LiesInChunk, LiesInStripe, Memory, MendFault, Mended}
-use Rattle.btr_scrub.proofs.Common.{Mirror, Plain, Sector, Seen, ShareNoRow, Sifts, SiftsNext, Span, SumKind, Target, TreeFault, Want, addr_of, and_from}
-use Rattle.btr_scrub.proofs.Common.{and_parts, chunk_at, cons_option, false≢true, filter, first_missing, flagged, has_older, holds, in_either, in_left}
-use Rattle.btr_scrub.proofs.Common.{in_right, is_checked, is_copy_needed, is_in_row, is_needed, is_plain, is_row_needed, kept_wants, le-leb, leb-true, len_of}
-use Rattle.btr_scrub.proofs.Common.{length-drop, mended_of, mirrors, ok_or_none, option_map_or, plains_from, slice_get_within, sought, sought_of, stood}
-use Rattle.btr_scrub.proofs.Common.{sum_by-cons, sum_size, targets}
+use Rattle.btr_scrub.proofs.Common.{AccountsMend, AddsAll, AreApart, AreOfKind, AreUpTo, CanSift, Chunk, Fault, Gathered, HasKeptOf, HasRooms, Images, In}
+use Rattle.btr_scrub.proofs.Common.{IsFirstRefused, IsList, IsSought, IsTable, KeptBlocks, Layout, LiesInChunk, LiesInStripe, MendFault, Mended, Mirror, Range}
+use Rattle.btr_scrub.proofs.Common.{Seen, ShareNoRow, Sifts, SiftsNext, Span, SumKind, Target, TreeFault, Want, addr_of, alone, and_from, and_parts, chunk_at}
+use Rattle.btr_scrub.proofs.Common.{cons_option, false≢true, filter, first_missing, flagged, has_older, holds, in_either, in_left, in_right, is_checked}
+use Rattle.btr_scrub.proofs.Common.{is_copy_needed, is_in_row, is_needed, is_plain, is_row_needed, kept_wants, le-leb, leb-true, len_of, length-drop, mended_of}
+use Rattle.btr_scrub.proofs.Common.{mirrors, ok_or_none, option_map_or, plains_from, row_of, slice_get_within, sought, sought_of, stood, sum_by-cons, sum_size}
+use Rattle.btr_scrub.proofs.Common.{targets}
 use Rattle.std.proofs.lemmas.List.Elements.{filter-append}
 use Rattle.std.proofs.lemmas.List.Sums.{sum_by-append}
 use Rattle.std.specs.Prelude.{count_by}
 use Rattle.btr_read.specs.declared.setting.Setting.{Setting}
 use Rattle.btr_read.specs.declared.want.Want.TheVariants.{Block, Tree}
-use Rattle.btr_scrub.specs.Listed.{AreRuns, IsOfKind, IsRun, PassesPlain, all_sectors, run_wants}
-use Rattle.btr_scrub.specs.Listed.{sectors_from, sectors_of, trees_of, wants_of}
+use Rattle.btr_scrub.specs.Listed.{AreRuns, IsOfKind, IsRun, PassesPlain, all_sectors, run_wants, sectors_from, sectors_of, trees_of, wants_of}
 use Rattle.btr_scrub.specs.Order.{AreBetween}
-use Rattle.btr_scrub.specs.BlocksInRows.{In}
 use Rattle.btr_scrub.specs.declared.run.Run.{Run}
 use Rattle.btr_scrub.specs.declared.run.RunKind.{RunKind}
 use Rattle.btr_scrub.specs.declared.run.RunKind.TheVariants.{TreeBlock, Sectors, Unsummed}
 use Rattle.btr_scrub.specs.declared.run.TreeMark.{TreeMark}
 use Rattle.btr_scrub.specs.declared.sieve.Sieve.{Sieve}
 use Rattle.btr_scrub.specs.declared.sifted.Sifted.{Sifted}
-use Rattle.btr_scrub.proofs.Listing.{runs_both, sectors_both, times_sum, trees_both, wants_both}
-use Rattle.btr_scrub.proofs.Scrubbing.{tell, told}
+use Rattle.btr_scrub.proofs.Listing.{adds_list, both, times_sum}
+use Rattle.btr_scrub.proofs.Scrubbing.{account_weaker, tell, told}
 use Rattle.btr_scrub.proofs.Unitwise.{between_more}
 use Rattle.std.proofs.Math.Bool.{and-false, and-true}
 use Rattle.btr_scrub_copies.specs.Mending.{IsCopied, IsOfCopy}
 use Rattle.btr_scrub.specs.Scanning.{IsSpanIn}
-use Rattle.btr_scrub.specs.Sifting.{AreSifted, ContinuesList, Judges, PassesInert, is_left_out}
-use Rattle.btr_scrub.specs.Sifting.{is_unsound, kept_of, left_out, lies_in, needs, row_among}
+use Rattle.btr_scrub.specs.Sifting.{AreSifted, ContinuesList, Judges, PassesInert, is_left_out, is_unsound, kept_of, left_out, lies_in, needs, row_among}
 use Rattle.btr_scrub.proofs.AcrossChunks.{sum_same}
 use Rattle.btr_scrub.proofs.Agreeing.{filter_same}
 use Rattle.btr_scrub.proofs.Blockwise.{all_behind, chunk_same, of_targets, part_is_given, target_sought, targets_both}
@@ -54,21 +51,19 @@ sought_copied layout want t table given e copies = record {
   stand = λ m has. part_is_given layout t (Mirror m) table (is_sought layout want t e) has given;
 }
 
+-- what lies in a stripe of a chunk of the table lies in a stripe
+pub in_table : (layout : Layout) (number : ℕ) (chunk : Chunk) (range : Range) → slice_get layout.chunks number ≡ Some chunk
+    → LiesInStripe (alone layout chunk) range → LiesInStripe layout range
+in_table layout number chunk range there lies = any_at (λ chunk. LiesInChunk layout chunk range) layout.chunks number chunk
+    (slice_get_within layout.chunks number chunk there) there (alone_lies layout chunk range lies)
+
 -- a read that failed in a copy failed in a stripe
 pub copies_in_stripe : {A : Type 0} (layout : Layout) (want : Want) (t : Target) (a b : Seen) (r : Result A MendFault) → IsTable layout.chunks
     → sought layout want ≡ Ok t → AccountsMend (IsOfCopy t) a b r → AccountsMend (LiesInStripe layout) a b r
-copies_in_stripe layout want t a b (Ok x) table e h = h
-copies_in_stripe layout want t a b (Err Memory) table e h = h
-copies_in_stripe layout want t a b (Err (Image slot)) table e h =
+copies_in_stripe layout want t a b r table e h =
     let is = is_sought layout want t e in
-    record {
-      place = h.place;
-      failed = h.failed;
-      on_slot = h.on_slot;
-      lies = any_at
-          (λ chunk. LiesInChunk layout chunk h.place) layout.chunks is.number t.chunk (slice_get_within layout.chunks is.number t.chunk is.there) is.there
-          (alone_lies layout t.chunk h.place (copy_in_stripe layout t h.place table is h.lies));
-    }
+    account_weaker (IsOfCopy t) (LiesInStripe layout) a b r
+    (λ range of. in_table layout is.number t.chunk range is.there (copy_in_stripe layout t range table is of)) h
 
 -- what is needed, by what was found
 module _ (images : Images) (layout : Layout) (t : Target) where
@@ -83,6 +78,14 @@ module _ (images : Images) (layout : Layout) (t : Target) where
   needed_copy ts copies =
       let n = some_of (mirrors t.chunk) copies in
       ap (λ o. cond (is_none o) (is_row_needed images layout (row_among ts t)) (is_copy_needed images layout t)) n.1
+
+  -- with parity it is needed where its full stripe is
+  pub needed_row : (ts : List Target) (chunk : Chunk) (k : ℕ) → t.chunk ≡ chunk → t.at.row ≡ k → mirrors chunk ≡ None
+      → is_needed images layout ts t ≡ is_row_needed images layout (row_of (flagged []) ts chunk k)
+  needed_row ts chunk k mine row parity =
+      ap (λ c. cond (is_none (mirrors c)) (is_row_needed images layout (row_of (flagged []) ts c t.at.row)) (is_copy_needed images layout t)) mine
+      ∙ ap (λ n. cond (is_none (mirrors chunk)) (is_row_needed images layout (row_of (flagged []) ts chunk n)) (is_copy_needed images layout t)) row
+      ∙ ap (λ o. cond (is_none o) (is_row_needed images layout (row_of (flagged []) ts chunk k)) (is_copy_needed images layout t)) parity
 
 -- ---- lists of blocks
 
@@ -160,28 +163,24 @@ module _ (images : Images) (layout : Layout) (wants : List Want) where
 -- ---- lists that share no full stripe
 
 module _ (layout : Layout) (table : IsTable layout.chunks) where
-  -- whether a block is needed hangs on none in other full stripes
-  alone_needed : (images : Images) (t : Target) (ts us vs : List Target) → IsSought layout t → ((u : Target) → In u (us ++ vs) → IsSought layout u)
-      → ((u : Target) → In u us ⊎ In u vs → t.chunk ≡ u.chunk → mirrors t.chunk ≡ None → t.at.row ≢ u.at.row)
-      → is_needed images layout (us ++ (ts ++ vs)) t ≡ is_needed images layout ts t
-  alone_needed images t ts us vs is are apart = by (mirrors t.chunk) refl
+  -- whether a block is needed hangs on those of its full stripe
+  alone_needed : (images : Images) (t : Target) (ts us : List Target)
+      → (mirrors t.chunk ≡ None → filter (is_in_row t.chunk t.at.row) us ≡ filter (is_in_row t.chunk t.at.row) ts)
+      → is_needed images layout us t ≡ is_needed images layout ts t
+  alone_needed images t ts us same = by (mirrors t.chunk) refl
     where
-      by : (o : Option ℕ) → mirrors t.chunk ≡ o → is_needed images layout (us ++ (ts ++ vs)) t ≡ is_needed images layout ts t
-      by (Some n) e = needed_copy images layout t (us ++ (ts ++ vs)) (subst IsSome (sym e) refl) ∙ sym
-          (needed_copy images layout t ts (subst IsSome (sym e) refl))
-      by None e =
-          let p = is_in_row t.chunk t.at.row in
-          let of : IsParityChunk layout is.number t.chunk = record { table = table; there = is.there; parity = e } in
-          let not_in = λ (u : Target) (i : In u us ⊎ In u vs). row_is_not of t.at.row u (are u (in_both u us vs i))
-          (λ same row. apart u i (sym same) e (sym row)) in
-          ap (λ bs. cond (is_none (mirrors t.chunk))
+      by : (o : Option ℕ) → mirrors t.chunk ≡ o → is_needed images layout us t ≡ is_needed images layout ts t
+      by (Some n) e = needed_copy images layout t us (subst IsSome (sym e) refl) ∙ sym (needed_copy images layout t ts (subst IsSome (sym e) refl))
+      by None e = ap (λ bs. cond (is_none (mirrors t.chunk))
           (is_row_needed images layout (record { chunk = t.chunk; number = t.at.row; blocks = bs; failing = flagged [] })) (is_copy_needed images layout t))
-          (filter_later p us (ts ++ vs) (λ u i. not_in u (inl i)) ∙ filter_first p ts vs (λ u i. not_in u (inr i)))
-        where
-          -- a member of one of two lists is one of both together
-          in_both : (u : Target) (xs ys : List Target) → In u xs ⊎ In u ys → In u (xs ++ ys)
-          in_both u xs ys (inl i) = in_left u xs ys i
-          in_both u xs ys (inr i) = in_right u xs ys i
+          (same e)
+
+  -- a block that shares no full stripe with another doesn't lie in that of the other
+  outside : (t u : Target) → IsSought layout t → IsSought layout u → mirrors t.chunk ≡ None → (t.chunk ≡ u.chunk → t.at.row ≢ u.at.row)
+      → is_in_row t.chunk t.at.row u ≡ false
+  outside t u is are none apart =
+      let of : IsParityChunk layout is.number t.chunk = record { table = table; there = is.there; parity = none } in
+      row_is_not of t.at.row u are (λ same row. apart (sym same) (sym row))
 
   module _ (images : Images) (xs ys : List Want) (share : ShareNoRow layout xs ys) where
     -- the blocks of both lists
@@ -195,25 +194,17 @@ module _ (layout : Layout) (table : IsTable layout.chunks) where
     -- whether one of the first is needed hangs on the first alone
     first_needed : (t : Target) → In t (targets layout xs) → is_needed images layout both_ts t ≡ is_needed images layout (targets layout xs) t
     first_needed t i = ap (λ ts. is_needed images layout ts t) are_both
-        ∙ alone_needed images t (targets layout xs) [] (targets layout ys) (target_sought layout xs t i) (target_sought layout ys)
-        (λ u j same none. apart u j same none)
-      where
-        -- none of the last lies in its full stripe
-        apart : (u : Target) → In u [] ⊎ In u (targets layout ys) → t.chunk ≡ u.chunk → mirrors t.chunk ≡ None → t.at.row ≢ u.at.row
-        apart u (inl j) same none = absurd j
-        apart u (inr j) same none = share t u i j same none
+        ∙ alone_needed images t (targets layout xs) (targets layout xs ++ targets layout ys)
+        (λ none. filter_first (is_in_row t.chunk t.at.row) (targets layout xs) (targets layout ys)
+        (λ u j. outside t u (target_sought layout xs t i) (target_sought layout ys u j) none (λ same. share t u i j same none)))
 
     -- whether one of the last is hangs on the last
     later_needed : (t : Target) → In t (targets layout ys) → is_needed images layout both_ts t ≡ is_needed images layout (targets layout ys) t
-    later_needed t i =
-        ap (λ ts. is_needed images layout ts t) (are_both ∙ ap (λ us. targets layout xs ++ us) (sym (append-nil (targets layout ys))))
-        ∙ alone_needed images t (targets layout ys) (targets layout xs) [] (target_sought layout ys t i)
-        (λ u j. target_sought layout xs u (subst (In u) (append-nil (targets layout xs)) j)) (λ u j same none. apart u j same none)
-      where
-        -- none of the first lies in its full stripe
-        apart : (u : Target) → In u (targets layout xs) ⊎ In u [] → t.chunk ≡ u.chunk → mirrors t.chunk ≡ None → t.at.row ≢ u.at.row
-        apart u (inl j) same none = λ e. share u t j i (sym same) (ap mirrors (sym same) ∙ none) (sym e)
-        apart u (inr j) same none = absurd j
+    later_needed t i = ap (λ ts. is_needed images layout ts t) are_both
+        ∙ alone_needed images t (targets layout ys) (targets layout xs ++ targets layout ys)
+        (λ none. filter_later (is_in_row t.chunk t.at.row) (targets layout xs) (targets layout ys)
+        (λ u j. outside t u (target_sought layout ys t i) (target_sought layout xs u j) none
+        (λ same eq. share u t j i (sym same) (ap mirrors (sym same) ∙ none) (sym eq))))
 
     -- whether a want is needed is the same by both lists as by one, where it is so with that one's blocks
     needs_same : (ws : List Want) →
@@ -348,16 +339,25 @@ one_needed layout held want t b e copies h = tell held
     (λ images is u i. subst (λ v. is_needed images layout (targets layout (want ∷ [])) v ≡ b) (one_target layout want t u e i)
     (needed_copy images layout t (targets layout (want ∷ [])) copies ∙ sym (told held (λ images. b ≡ is_copy_needed images layout t) images is h)))
 
--- a list of one block with a position has positions
-pub one_placed : (layout : Layout) (want : Want) (t : Target) → sought layout want ≡ Ok t → (w : Want) → In w (want ∷ []) → (t : Target) ×
-    (sought layout w ≡ Ok t)
-one_placed layout want t e w (inl same) = (t, ap (sought layout) (sym same) ∙ e)
-one_placed layout want t e w (inr i) = absurd i
+-- one that isn't needed is counted, if it is checked
+pub one_out : (layout : Layout) (held : Option Images) (want : Want) (t : Target) (plain : Bool) (x y : Sifted) → sought layout want ≡ Ok t
+    → IsSome (mirrors t.chunk) → is_plain want ≡ plain → IfSome held (λ images. false ≡ is_copy_needed images layout t) → CanSift layout y → y.kept ≡ x.kept
+    → ((n : ℕ) → x.sound ≡ stood n → y.sound ≡ stood (n + cond (not plain) 1 0)) → Sifts layout held (want ∷ []) x y
+one_out layout held want t plain x y e copies is needed can same grows = sifts_out layout held (want ∷ []) x y placed can (cond (not plain) 1 0)
+    (tell held (λ images. cond (not plain) 1 0 ≡ count_by is_checked (targets layout (want ∷ []))) (λ images h. sym counted))
+    (one_needed layout held want t false e copies needed) same grows
+  where
+    -- the block has its position
+    placed : (w : Want) → In w (want ∷ []) → (t : Target) × (sought layout w ≡ Ok t)
+    placed w (inl same) = (t, ap (sought layout) (sym same) ∙ e)
+    placed w (inr i) = absurd i
 
--- whether it is counted
-pub one_counted : (layout : Layout) (want : Want) (t : Target) → sought layout want ≡ Ok t → count_by is_checked (targets layout (want ∷ [])) ≡ cond
-    (is_checked t) 1 0
-one_counted layout want t e = ap (λ r. count_by is_checked (cons_option (ok_or_none r) [])) e ∙ sum_by-cons (λ t. cond (is_checked t) 1 0) t [] ∙ omega arith
+    -- it is checked, or not
+    counted : count_by is_checked (targets layout (want ∷ [])) ≡ cond (not plain) 1 0
+    counted =
+        let one : count_by is_checked (targets layout (want ∷ [])) ≡ cond (is_checked t) 1 0 =
+        ap (λ r. count_by is_checked (cons_option (ok_or_none r) [])) e ∙ sum_by-cons (λ t. cond (is_checked t) 1 0) t [] ∙ omega arith in
+        one ∙ ap (λ b. cond (not b) 1 0) (ap is_plain (sought_of layout want t e).want_is ∙ is)
 
 -- ---- checksums of one kind
 
@@ -422,67 +422,38 @@ list_of_kind kept is = runs_of_kind kept.kind kept.runs kept.sums kept.marks is.
 
 -- ---- lists one behind another
 
--- a list of the blocks of two
-abbrev pub both : KeptBlocks → KeptBlocks → KeptBlocks
-both whole more = record { kind = whole.kind; runs = whole.runs ++ more.runs; sums = whole.sums ++ more.sums; marks = whole.marks ++ more.marks }
-
-module _ (whole more : KeptBlocks) (is : IsList whole) (is_more : IsList more) (same : more.kind ≡ whole.kind) where
-  -- its wants are those of the one, and behind them those of the other
-  both_wants : kept_wants (both whole more) ≡ kept_wants whole ++ kept_wants more
-  both_wants = wants_both whole.kind whole.runs more.runs whole.sums more.sums whole.marks more.marks is.sums_fit is.marks_fit
-      ∙ ap (λ k. kept_wants whole ++ wants_of k more.runs more.sums more.marks) (sym same)
-
-  -- they keep the list's form
-  both_list : IsList (both whole more)
-  both_list = record {
-    runs_fit = runs_both whole.runs more.runs is.runs_fit is_more.runs_fit;
-    sums_fit =
-        length-append whole.sums more.sums
-        ∙ omega (
-          arith,
-          is.sums_fit,
-          subst (λ k. length more.sums ≡ all_sectors more.runs * sum_size k) same is_more.sums_fit,
-          times_sum (all_sectors whole.runs) (all_sectors more.runs) (sum_size whole.kind),
-        )
-        ∙ ap (λ n. n * sum_size whole.kind) (sym (sectors_both whole.runs more.runs));
-    marks_fit = omega (arith, length-append whole.marks more.marks, is.marks_fit, is_more.marks_fit, trees_both whole.runs more.runs);
-  }
-
-  -- a list behind another has the blocks of both
-  pub is_behind : (n m k : ℕ) → m ≡ k → ContinuesList (record { list = whole; unchecked = n }) (record { list = more; unchecked = m })
-      (record { list = both whole more; unchecked = k })
-  is_behind n m k e = record { is_list = both_list; kind = refl; wants = both_wants; unchecked = sym e }
+-- a list behind another has the blocks of both
+pub is_behind : (whole more : KeptBlocks) → IsList whole → IsList more → more.kind ≡ whole.kind → (n m k : ℕ) → m ≡ k
+    → ContinuesList (record { list = whole; unchecked = n }) (record { list = more; unchecked = m }) (record { list = both whole more; unchecked = k })
+is_behind whole more is is_more same n m k e =
+    let a = adds_list whole more is is_more same in record { is_list = a.is_list; kind = a.kind; wants = a.wants; unchecked = sym e }
 
 -- ---- judging
 
 module _ (layout : Layout) (held : Option Images) (whole more after : Gathered) (is : ContinuesList whole more after) where
-  -- what holds of the wants of the two holds of those of the list that continues
-  behind_all : (P : List Want → Type 0) → P (kept_wants whole.list ++ kept_wants more.list) → P (kept_wants after.list)
-  behind_all P p = subst P (sym is.wants) p
-
-  -- what was refused before is refused still
-  refused_still : (x : Sieve) (f : TreeFault) → x.refused ≡ Some f → HasKeptOf layout held whole x
-      → HasKeptOf layout held after (record { sifted = x.sifted; unchecked = more.unchecked; end = x.end; refused = x.refused })
-  refused_still x f e h = record {
+  -- a sieve has what is kept of the list that continues, where it has what is kept of the wants of the two
+  stands : (x : Sieve) → CanSift layout x.sifted → x.sifted.kept.kind ≡ whole.list.kind → x.unchecked ≡ more.unchecked
+      → Judges layout held (kept_wants whole.list ++ kept_wants more.list) x x.refused → HasKeptOf layout held after x
+  stands x can kind unchecked judged = record {
     is_whole = is.is_list;
-    can = h.can;
-    kind = h.kind ∙ sym is.kind;
-    unchecked = sym is.unchecked;
-    judged = subst (Judges layout held (kept_wants after.list) (record { sifted = x.sifted; unchecked = more.unchecked; end = x.end; refused = x.refused }))
-        (sym e)
-        (behind_all (λ ws. IsFirstRefused layout 0 ws f) (refused_before layout 0 (kept_wants whole.list) (kept_wants more.list) f
-        (subst (Judges layout held (kept_wants whole.list) x) e h.judged)));
+    can = can;
+    kind = kind ∙ sym is.kind;
+    unchecked = unchecked ∙ sym is.unchecked;
+    judged = subst (λ ws. Judges layout held ws x x.refused) (sym is.wants) judged;
   }
 
-  -- one was refused before
+  -- one was refused before: it is so still
   pub stands_refused : (x : Sieve) → is_some x.refused ≡ true → HasKeptOf layout held whole x
       → HasKeptOf layout held after (record { sifted = x.sifted; unchecked = more.unchecked; end = x.end; refused = x.refused })
-  stands_refused x is_refused h = by x.refused refl is_refused
+  stands_refused x is_refused h = stands now h.can h.kind refl (by x.refused is_refused h.judged)
     where
-      by : (o : Option TreeFault) → x.refused ≡ o → is_some o ≡ true
-          → HasKeptOf layout held after (record { sifted = x.sifted; unchecked = more.unchecked; end = x.end; refused = x.refused })
-      by None e r = absurd (false≢true r)
-      by (Some f) e r = refused_still x f e h
+      now : Sieve
+      now = record { sifted = x.sifted; unchecked = more.unchecked; end = x.end; refused = x.refused }
+
+      by : (o : Option TreeFault) → is_some o ≡ true → Judges layout held (kept_wants whole.list) x o
+          → Judges layout held (kept_wants whole.list ++ kept_wants more.list) now o
+      by None r j = absurd (false≢true r)
+      by (Some f) r j = refused_before layout 0 (kept_wants whole.list) (kept_wants more.list) f j
 
   module _ (x : Sieve) (none : x.refused ≡ None) (h : HasKeptOf layout held whole x) where
     -- those before were sifted
@@ -492,13 +463,8 @@ module _ (layout : Layout) (held : Option Images) (whole more after : Gathered) 
     -- one is refused now
     pub stands_judged : (f : TreeFault) → IsFirstRefused layout x.end (kept_wants more.list) f
         → HasKeptOf layout held after (record { sifted = x.sifted; unchecked = more.unchecked; end = x.end; refused = Some f })
-    stands_judged f r = record {
-      is_whole = is.is_list;
-      can = h.can;
-      kind = h.kind ∙ sym is.kind;
-      unchecked = sym is.unchecked;
-      judged = behind_all (λ ws. IsFirstRefused layout 0 ws f) (refused_behind layout 0 x.end (kept_wants whole.list) (kept_wants more.list) f was.apart r);
-    }
+    stands_judged f r = stands (record { sifted = x.sifted; unchecked = more.unchecked; end = x.end; refused = Some f }) h.can h.kind refl
+        (refused_behind layout 0 x.end (kept_wants whole.list) (kept_wants more.list) f was.apart r)
 
     -- they were sifted
     pub stands_more : IsTable layout.chunks → ShareNoRow layout (kept_wants whole.list) (kept_wants more.list) → (y : Sifted) (to : ℕ)
@@ -507,27 +473,20 @@ module _ (layout : Layout) (held : Option Images) (whole more after : Gathered) 
     stands_more table share y to upto s =
         let ws = kept_wants whole.list in
         let vs = kept_wants more.list in
-        record {
-          is_whole = is.is_list;
-          can = s.can;
-          kind = s.kind ∙ h.kind ∙ sym is.kind;
-          unchecked = sym is.unchecked;
-          judged = subst (Judges layout held (kept_wants after.list) (record { sifted = y; unchecked = more.unchecked; end = to; refused = x.refused }))
-              (sym none) (record {
-                apart = behind_all (AreUpTo layout 0 to) (upto_more layout 0 x.end to ws vs was.apart upto);
-                kept_apart = subst (AreBetween layout 0 to) (sym s.wants_are)
-                    (between_more layout 0 x.end to (kept_wants x.sifted.kept) s.more was.kept_apart
-                    (s.within x.end to (upto_between layout x.end to vs upto)));
-                needed = tell held (λ images. kept_wants y.kept ≡ kept_of images layout (kept_wants after.list)) (λ images e.
-                    s.wants_are ∙ ap (λ ks. ks ++ s.more) (told held (λ images. kept_wants x.sifted.kept ≡ kept_of images layout ws) images e was.needed)
-                    ∙ ap (λ ks. kept_of images layout ws ++ ks) (told held (λ images. s.more ≡ kept_of images layout vs) images e s.needed)
-                    ∙ sym (kept_both layout table images ws vs share) ∙ ap (kept_of images layout) (sym is.wants));
-                sound = tell held (λ images. y.sound ≡ stood (left_out images layout (kept_wants after.list))) (λ images e.
-                    told held (λ images. (n : ℕ) → x.sifted.sound ≡ stood n → y.sound ≡ stood (n + left_out images layout vs)) images e s.sound
-                    (left_out images layout ws) (told held (λ images. x.sifted.sound ≡ stood (left_out images layout ws)) images e was.sound)
-                    ∙ ap stood (sym (left_both layout table images ws vs share)) ∙ ap (λ vs. stood (left_out images layout vs)) (sym is.wants));
-              });
-        }
+        let now : Sieve = record { sifted = y; unchecked = more.unchecked; end = to; refused = x.refused } in
+        stands now s.can (s.kind ∙ h.kind) refl (subst (Judges layout held (ws ++ vs) now) (sym none) (record {
+          apart = upto_more layout 0 x.end to ws vs was.apart upto;
+          kept_apart = subst (AreBetween layout 0 to) (sym s.wants_are) (between_more layout 0 x.end to (kept_wants x.sifted.kept) s.more was.kept_apart
+              (s.within x.end to (upto_between layout x.end to vs upto)));
+          needed = tell held (λ images. kept_wants y.kept ≡ kept_of images layout (ws ++ vs)) (λ images e.
+              s.wants_are ∙ ap (λ ks. ks ++ s.more) (told held (λ images. kept_wants x.sifted.kept ≡ kept_of images layout ws) images e was.needed)
+              ∙ ap (λ ks. kept_of images layout ws ++ ks) (told held (λ images. s.more ≡ kept_of images layout vs) images e s.needed)
+              ∙ sym (kept_both layout table images ws vs share));
+          sound = tell held (λ images. y.sound ≡ stood (left_out images layout (ws ++ vs))) (λ images e.
+              told held (λ images. (n : ℕ) → x.sifted.sound ≡ stood n → y.sound ≡ stood (n + left_out images layout vs)) images e s.sound
+              (left_out images layout ws) (told held (λ images. x.sifted.sound ≡ stood (left_out images layout ws)) images e was.sound)
+              ∙ ap stood (sym (left_both layout table images ws vs share)));
+        }))
 
 -- what isn't there is missing
 pub none_if : {X : Type 0} (o : Option X) → is_some o ≡ false → o ≡ None
@@ -540,8 +499,7 @@ none_if (Some x) e = absurd (false≢true (sym e))
 len_some : (setting : Setting) (want : Want) → 0 < setting.nodesize → 0 < len_of setting want
 len_some setting (Tree addr generation level) some = some
 len_some setting (Block addr) some = some
-len_some setting (Sector addr sum) some = omega arith
-len_some setting (Plain addr) some = omega arith
+len_some setting want some = omega arith
 
 -- blocks before a chunk and blocks in it have no full stripe in common
 pub shares_none : (layout : Layout) (number : ℕ) (chunk : Chunk) (end to : ℕ) (xs ys : List Want) → IsTable layout.chunks → 0 < layout.setting.nodesize
@@ -628,10 +586,6 @@ module _ (layout : Layout) (held : Option Images) (want : Want) (end : ℕ) (old
   apart_past : AreApart layout end (p.past ++ new)
   apart_past = subst (AreApart layout end) p.split apart
 
-  -- each of them has a position
-  placed_past : (w : Want) → In w p.past → (t : Target) × (sought layout w ≡ Ok t)
-  placed_past w i = sought_each layout end (p.past ++ new) apart_past w (in_left w p.past new i)
-
   -- each is a sector without a checksum of a chunk with copies and without an older image
   past_is : (t : Target) → In t (targets layout p.past) → (is_plain t.want ≡ true) × IsSome (mirrors t.chunk) × (has_older layout.devices t.chunk ≡ false)
   past_is t i =
@@ -642,7 +596,7 @@ module _ (layout : Layout) (held : Option Images) (want : Want) (end : ℕ) (old
 
   -- so they are left out
   pub sifts_inert : Sifts layout held p.past x x
-  sifts_inert = sifts_out layout held p.past x x placed_past can 0
+  sifts_inert = sifts_out layout held p.past x x (λ w i. sought_each layout end (p.past ++ new) apart_past w (in_left w p.past new i)) can 0
       (tell held (λ images. 0 ≡ count_by is_checked (targets layout p.past)) (λ images h.
       sym (sum_zero (λ t. cond (is_checked t) 1 0) (targets layout p.past) (λ t i. ap (λ b. cond (not b) 1 0) (past_is t i).0))))
       (tell held (λ images. (t : Target) → In t (targets layout p.past) → is_needed images layout (targets layout p.past) t ≡ false) (λ images h t i.

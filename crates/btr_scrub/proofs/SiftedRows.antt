@@ -1,24 +1,22 @@
 -- A full stripe whose blocks were collected is sifted.
-use Rattle.std.proofs.Common.{◌≡◌, ℕ, ◌+◌, ◌∷◌, Bool, true, false, cond, ◌||◌, count_by, is_none, List, [], map, Option, Some, None, IfSome, IsOk, Ok, Err}
+use Rattle.std.proofs.Common.{is_none, ◌≡◌, ℕ, ◌+◌, ◌∷◌, Bool, true, false, cond, ◌||◌, count_by, List, [], map, Option, Some, None, IfSome, IsOk, Ok, Err}
 use Rattle.std.proofs.Common.{refl, sym, ap, ◌∙◌, subst, arith, append-nil}
-use Rattle.btr_scrub.proofs.Common.{AccountsMend, AddsAll, AreApart, Blocks, CanMend, CanSift, Chunk, HasRooms, Image, Images, IsTable, Layout, LiesInChunk}
+use Rattle.btr_scrub.proofs.Common.{AccountsMend, AddsAll, AreApart, Blocks, CanMend, CanSift, Chunk, HasRooms, Image, Images, In, IsTable, Layout}
 use Rattle.btr_scrub.proofs.Common.{LiesInStripe, Memory, MendFault, MendedRow, Row, Seen, ShareNoRow, Sifts, SiftsNext, Target, Want, addr_of, chunk_at}
-use Rattle.btr_scrub.proofs.Common.{flagged, holds, is_checked, is_copy_needed, is_needed, is_plain, is_row_needed, list_any, mended_row, mirrors, row_of}
-use Rattle.btr_scrub.proofs.Common.{same_Some, serving, slice_get_within, sought, sought_of, stood, targets}
+use Rattle.btr_scrub.proofs.Common.{flagged, holds, is_checked, is_needed, is_plain, is_row_needed, list_any, mended_row, mirrors, row_of, same_Some, serving}
+use Rattle.btr_scrub.proofs.Common.{sought, sought_of, stood, targets}
 use Rattle.btr_scrub_row.specs.Mending.{IsOfRow, IsRowOf, is_at}
-use Rattle.btr_scrub.specs.BlocksInRows.{In}
 use Rattle.btr_scrub.specs.Rowing.{CollectsRow}
 use Rattle.btr_scrub.specs.Sifting.{is_troubled, sound_in}
 use Rattle.btr_scrub.specs.declared.sifted.Sifted.{Sifted}
 use Rattle.btr_scrub.proofs.NextRow.{IsNextRow, is_row_of, mine_is, row_blocks}
-use Rattle.btr_scrub.proofs.Lists.{any_at}
 use Rattle.btr_scrub.proofs.RowNumbers.{IsWholeChunk}
 use Rattle.btr_scrub.proofs.Blockwise.{ok_of}
 use Rattle.btr_scrub.proofs.OneRow.{chunk_number, chunk_of, row_in_stripe}
-use Rattle.btr_scrub.proofs.Positions.{alone_lies, find_at, bounds_of}
+use Rattle.btr_scrub.proofs.Positions.{find_at, bounds_of}
 use Rattle.btr_scrub.proofs.Rowwise.{next_row, none_past}
-use Rattle.btr_scrub.proofs.Scrubbing.{tell, told}
-use Rattle.btr_scrub.proofs.Sieving.{sifts_kept, sifts_out}
+use Rattle.btr_scrub.proofs.Scrubbing.{account_weaker, tell, told}
+use Rattle.btr_scrub.proofs.Sieving.{in_table, needed_row, sifts_kept, sifts_out}
 
 -- ---- what a row's wants and blocks have in common
 
@@ -50,22 +48,16 @@ read_needed images layout wants row mended e plain is =
     ∙ sym (ap (λ b. cond (b || is_troubled (mended_row images layout row false)) None (Some (count_by is_checked row.blocks)))
     (plain_among layout wants row.blocks e ∙ plain))
 
--- what was counted says whether it is needed
-pub none_sound : (images : Images) (layout : Layout) (row : Row) → None ≡ sound_in images layout row → is_row_needed images layout row ≡ true
-none_sound images layout row e = by (is_row_needed images layout row) e
+-- what was counted says whether it is needed, and else how many of its blocks are checked
+counted_says : (images : Images) (layout : Layout) (row : Row) (o : Option ℕ) → o ≡ sound_in images layout row
+    → (is_row_needed images layout row ≡ is_none o) × IfSome o (λ n. n ≡ count_by is_checked row.blocks)
+counted_says images layout row o e = by (is_row_needed images layout row) o e
   where
-    by : (b : Bool) → None ≡ cond b None (Some (count_by is_checked row.blocks)) → b ≡ true
-    by true e = refl
-    by false e = cc
-
--- where a number was counted, the row isn't needed, and that is the number of its checked blocks
-pub some_sound : (images : Images) (layout : Layout) (row : Row) (n : ℕ) → Some n ≡ sound_in images layout row
-    → (is_row_needed images layout row ≡ false) × (n ≡ count_by is_checked row.blocks)
-some_sound images layout row n e = by (is_row_needed images layout row) e
-  where
-    by : (b : Bool) → Some n ≡ cond b None (Some (count_by is_checked row.blocks)) → (b ≡ false) × (n ≡ count_by is_checked row.blocks)
-    by true e = cc
-    by false e = (refl, cc)
+    by : (b : Bool) (o : Option ℕ) → o ≡ cond b None (Some (count_by is_checked row.blocks))
+        → (b ≡ is_none o) × IfSome o (λ n. n ≡ count_by is_checked row.blocks)
+    by true None e = (refl, tt)
+    by false (Some n) e = (refl, cc)
+    by b o e = cc
 
 -- a read that failed in a row failed in a stripe
 pub row_account : (A B : Type 0) (layout : Layout) (start number : ℕ) (wants : List Want) (row : Row) (a b : Seen) (fault : MendFault) → IsTable layout.chunks
@@ -74,13 +66,8 @@ pub row_account : (A B : Type 0) (layout : Layout) (start number : ℕ) (wants :
 row_account A B layout start number wants row a b Memory table is h = h
 row_account A B layout start number wants row a b (Image slot) table is h =
     let n = chunk_number layout start number row is.stripe in
-    record {
-      place = h.place;
-      failed = h.failed;
-      on_slot = h.on_slot;
-      lies = any_at (λ chunk. LiesInChunk layout chunk h.place) layout.chunks n.0 row.chunk (slice_get_within layout.chunks n.0 row.chunk n.1) n.1
-          (alone_lies layout row.chunk h.place (row_in_stripe layout start number row h.place table is.stripe h.lies));
-    }
+    account_weaker {A = B} (IsOfRow layout row) (LiesInStripe layout) a b (Err (Image slot))
+    (λ range of. in_table layout n.0 row.chunk range n.1 (row_in_stripe layout start number row range table is.stripe of)) h
 
 -- ---- the row that comes next
 
@@ -167,11 +154,7 @@ module _ {layout : Layout} {first : Want} {old new ws : List Want} {chunk : Chun
       → is_needed images layout (targets layout ws) t ≡ b
   as_row images b e t i =
       let m = lies t i in
-      ap (λ c. cond (is_none (mirrors c)) (is_row_needed images layout (row_of (flagged []) (targets layout ws) c t.at.row)) (is_copy_needed images layout t))
-      m.0
-      ∙ ap (λ k. cond (is_none (mirrors chunk)) (is_row_needed images layout (row_of (flagged []) (targets layout ws) chunk k))
-      (is_copy_needed images layout t)) m.1
-      ∙ ap (λ o. cond (is_none o) (is_row_needed images layout row) (is_copy_needed images layout t)) n.whole.of.parity ∙ e
+      needed_row images layout t (targets layout ws) chunk r m.0 m.1 n.whole.of.parity ∙ e
 
   -- each has a position
   placed : (w : Want) → In w ws → (t : Target) × (sought layout w ≡ Ok t)
@@ -192,7 +175,8 @@ module _ {layout : Layout} {first : Want} {old new ws : List Want} {chunk : Chun
         → y.nodesize ≡ x.nodesize → HasRooms layout y.room.buffer → SiftsNext layout held first old new x y
     row_kept can none adds same nodesize rooms = sifts_next (sifts_kept layout held ws x y can
         (tell held (λ images. (t : Target) → In t (targets layout ws) → is_needed images layout (targets layout ws) t ≡ true) (λ images h.
-        as_row images true (none_sound images layout row (told held (λ images. None ≡ sound_in images layout row) images h none)))) adds same nodesize rooms)
+        as_row images true (counted_says images layout row None (told held (λ images. None ≡ sound_in images layout row) images h none)).0))
+        adds same nodesize rooms)
 
     -- they are counted
     pub row_out : (out : ℕ) → CanSift layout y → IfSome held (λ images. Some out ≡ sound_in images layout row) → y.kept ≡ x.kept
@@ -204,4 +188,4 @@ module _ {layout : Layout} {first : Want} {old new ws : List Want} {chunk : Chun
       where
         -- the row isn't needed, and as many were counted as it has checked blocks
         is : (images : Images) → held ≡ Some images → (is_row_needed images layout row ≡ false) × (out ≡ count_by is_checked row.blocks)
-        is images h = some_sound images layout row out (told held (λ images. Some out ≡ sound_in images layout row) images h sound)
+        is images h = counted_says images layout row (Some out) (told held (λ images. Some out ≡ sound_in images layout row) images h sound)

@@ -1,24 +1,21 @@
 -- Blocks that are left out, as nothing may have to be written for them, change neither the writes nor the counts.
-use Rattle.std.proofs.Common.{◌≡◌, ◌⊎◌, ℕ, ◌+◌, Bool, true, false, not, cond, ◌&&◌, ◌||◌, eqb, ltb, ◌/◌, List, [], ◌∷◌, ◌++◌, map, length, subst}
+use Rattle.std.proofs.Common.{IsSome, ◌≡◌, ◌⊎◌, ℕ, ◌+◌, Bool, true, false, not, cond, ◌&&◌, ◌||◌, eqb, ltb, ◌/◌, List, [], ◌∷◌, ◌++◌, map, length, subst}
 use Rattle.std.proofs.Common.{Option, Some, None, is_none, Result, Ok, Err, refl, sym, ap, ◌∙◌, inl, inr, arith}
 use Rattle.std.proofs.Math.Path.{fun_ext}
-use Rattle.btr_scrub.proofs.Common.{Chunk, Failing, Fault, Images, IsSought, IsTable, Layout, MendedRow, Mirror, P, Part, Q, Row, Target, Want, accepted}
+use Rattle.btr_scrub.proofs.Common.{Chunk, Failing, Fault, Images, In, IsSought, IsTable, Layout, MendedRow, Mirror, Part, Row, Target, Want, accepted}
 use Rattle.btr_scrub.proofs.Common.{all_count_for, all_writes_for, and_from, and_parts, bad_parts, begun, block_writes, chunk_writes_for, cons_option}
 use Rattle.btr_scrub.proofs.Common.{copy_writes, eq-eqb, eqb-true, failing, fails_at, fails_on, false_from_ne_true, false≢true, filter, flagged, flat_map}
-use Rattle.btr_scrub.proofs.Common.{fresh_writes, has_behind, has_older, is_checked, is_copy_needed, is_good, is_in_chunk, is_in_row, is_lost_block}
-use Rattle.btr_scrub.proofs.Common.{is_needed, is_plain, is_row_needed, is_sound, list_any, list_any-false, ltb-false, mended_row, mending_writes, mirrors}
-use Rattle.btr_scrub.proofs.Common.{ok_or_none, option_map_or, or_parts, own_parts, parities, parity_writes, passing_filter, range_with_len, row_of}
-use Rattle.btr_scrub.proofs.Common.{row_writes, rows_count, rows_in, rows_writes, sites_count, sites_writes, sought, stale_parts, stood, stripe_length}
-use Rattle.btr_scrub.proofs.Common.{sum_by, sum_by-cons, targets, wrong_parts}
+use Rattle.btr_scrub.proofs.Common.{fresh_writes, has_older, is_checked, is_copy_needed, is_good, is_in_chunk, is_in_row, is_lost_block, is_needed, is_plain}
+use Rattle.btr_scrub.proofs.Common.{is_row_needed, is_sound, list_any, list_any-false, ltb-false, mended_row, mending_writes, mirrors, ok_or_none}
+use Rattle.btr_scrub.proofs.Common.{option_map_or, or_parts, own_parts, parities, parity_writes, passing_filter, range_with_len, row_of, row_writes, rows_count}
+use Rattle.btr_scrub.proofs.Common.{rows_in, rows_writes, sites_count, sites_writes, sought, stale_parts, stood, stripe_length, sum_by, sum_by-cons, targets}
+use Rattle.btr_scrub.proofs.Common.{wrong_parts}
 use Rattle.std.proofs.lemmas.Bool.{not-false}
 use Rattle.std.specs.List.{count_by, fold}
-use Rattle.btr_chunk.specs.declared.place.Part.TheVariants.{Slice}
 use Rattle.btr_read.specs.Candidates.{element}
 use Rattle.btr_scrub_copies.specs.Blocks.{are_accepted, is_lost}
 use Rattle.btr_scrub.specs.Doubts.{is_on}
-use Rattle.btr_scrub.specs.BlocksInRows.{In}
-use Rattle.btr_scrub.specs.Sifting.{KeptCounts, KeptWrites, is_troubled, is_unsound, kept_of, left_out, needs}
-use Rattle.btr_scrub.specs.Sifting.{row_among}
+use Rattle.btr_scrub.specs.Sifting.{KeptCounts, KeptWrites, is_troubled, is_unsound, kept_of, left_out, needs, row_among}
 use Rattle.btr_scrub.proofs.AcrossChunks.{sum_same}
 use Rattle.btr_scrub.proofs.Blockwise.{target_sought}
 use Rattle.btr_scrub.proofs.Inert.{inert_chunk, none_fresh, none_stale}
@@ -27,74 +24,65 @@ use Rattle.btr_scrub.proofs.Lists.{at_in, in_filter, none_in, flat_none, in_some
 use Rattle.btr_scrub.proofs.NextRow.{empty_writes}
 use Rattle.btr_scrub.proofs.RowAgreeing.{RowAlike, beside, checked_row, flat_same, row_writes_alike, flat_mapped}
 use Rattle.btr_scrub.proofs.RowNumbers.{IsParityChunk, same_start}
-use Rattle.btr_scrub.proofs.Sums.{sum_filter, sum_flat, sum_map, sum_zero, sum_add, sum_one}
+use Rattle.btr_scrub.proofs.Sums.{sum_filter, sum_flat, sum_map, sum_zero, sum_add}
 use Rattle.btr_scrub.proofs.Tallying.{counts_are, counts_of, lost_sum, parity_in, parity_none, same_tally}
 use Rattle.std.proofs.Math.Bool.{and-false}
 use Rattle.std.proofs.lemmas.List.{nil_from_length}
+use Rattle.std.proofs.lemmas.List.Sums.{length-filter}
 use Rattle.btr_scrub.proofs.Grouping.{filter_none}
+use Rattle.btr_scrub.proofs.Sieving.{needed_copy, needed_row}
 
 -- ---- lists of which some are left out
 
 module _ {X : Type 0} (q : X → Bool) where
+  -- what is added up member by member is the same without those that add nothing
+  without : {Y : Type 0} (add : X → Y → Y) (all : List X → Y) → ((x : X) (xs : List X) → all (x ∷ xs) ≡ add x (all xs)) → (xs : List X)
+      → ((x : X) → In x xs → q x ≡ false → (y : Y) → add x y ≡ y) → all (filter q xs) ≡ all xs
+  without add all step [] h = refl
+  without add all step (x ∷ xs) h = by (q x) refl (without add all step xs (λ y i. h y (inr i)))
+    where
+      by : (b : Bool) → q x ≡ b → all (filter q xs) ≡ all xs → all (cond b (x ∷ filter q xs) (filter q xs)) ≡ all (x ∷ xs)
+      by true e rest = step x (filter q xs) ∙ ap (add x) rest ∙ sym (step x xs)
+      by false e rest = rest ∙ sym (step x xs ∙ h x (inl refl) e (all xs))
+
   -- what passes another test is kept
   filter_both : (p : X → Bool) (xs : List X) → ((x : X) → In x xs → p x ≡ true → q x ≡ true) → filter p (filter q xs) ≡ filter p xs
-  filter_both p [] h = refl
-  filter_both p (x ∷ xs) h = by (q x) (p x) refl refl (filter_both p xs (λ y i. h y (inr i)))
+  filter_both p xs h = without (λ x ys. cond (p x) (x ∷ ys) ys) (filter p) (λ x ys. refl) xs (λ x i e ys. by x (p x) e (h x i) ys)
     where
-      by : (b c : Bool) → q x ≡ b → p x ≡ c → filter p (filter q xs) ≡ filter p xs
-          → filter p (cond b (x ∷ filter q xs) (filter q xs)) ≡ cond (p x) (x ∷ filter p xs) (filter p xs)
-      by true c e f rest = ap (λ ys. cond (p x) (x ∷ ys) ys) rest
-      by false true e f rest = absurd (false≢true (sym e ∙ h x (inl refl) f))
-      by false false e f rest = rest ∙ sym (ap (λ b. cond b (x ∷ filter p xs) (filter p xs)) f)
+      by : (x : X) (b : Bool) → q x ≡ false → (b ≡ true → q x ≡ true) → (ys : List X) → cond b (x ∷ ys) ys ≡ ys
+      by x true e h ys = absurd (false≢true (sym e ∙ h refl))
+      by x false e h ys = refl
 
   -- what is left out gives nothing
   flat_both : {Y : Type 0} (f : X → List Y) (p : X → Bool) (xs : List X) → ((x : X) → In x xs → q x ≡ false → f x ≡ [])
       → flat_map f (filter p (filter q xs)) ≡ flat_map f (filter p xs)
-  flat_both f p [] h = refl
-  flat_both f p (x ∷ xs) h = by (q x) (p x) refl (flat_both f p xs (λ y i. h y (inr i)))
+  flat_both {Y} f p xs h = without (λ x ys. cond (p x) (f x) [] ++ ys) (λ ys. flat_map f (filter p ys)) (λ x ys. by x ys (p x)) xs
+      (λ x i e ys. ap (λ z. cond (p x) z [] ++ ys) (h x i e) ∙ none (p x) ys)
     where
-      by : (b c : Bool) → q x ≡ b → flat_map f (filter p (filter q xs)) ≡ flat_map f (filter p xs)
-          → flat_map f (filter p (cond b (x ∷ filter q xs) (filter q xs))) ≡ flat_map f (cond (p x) (x ∷ filter p xs) (filter p xs))
-      by true c e rest = of (p x)
-        where
-          of : (d : Bool) → flat_map f (cond d (x ∷ filter p (filter q xs)) (filter p (filter q xs))) ≡ flat_map f (cond d (x ∷ filter p xs) (filter p xs))
-          of true = ap (λ ys. f x ++ ys) rest
-          of false = rest
-      by false c e rest = of (p x)
-        where
-          of : (d : Bool) → flat_map f (filter p (filter q xs)) ≡ flat_map f (cond d (x ∷ filter p xs) (filter p xs))
-          of true = rest ∙ sym (ap (λ ys. ys ++ flat_map f (filter p xs)) (h x (inl refl) e))
-          of false = rest
+      by : (x : X) (ys : List X) (b : Bool) → flat_map f (cond b (x ∷ filter p ys) (filter p ys)) ≡ cond b (f x) [] ++ flat_map f (filter p ys)
+      by x ys true = refl
+      by x ys false = refl
+
+      none : (b : Bool) (ys : List Y) → cond b [] [] ++ ys ≡ ys
+      none true ys = refl
+      none false ys = refl
 
   -- or isn't so
   any_both : (g : X → Bool) (xs : List X) → ((x : X) → In x xs → q x ≡ false → g x ≡ false) → list_any g (filter q xs) ≡ list_any g xs
-  any_both g [] h = refl
-  any_both g (x ∷ xs) h = by (q x) refl (any_both g xs (λ y i. h y (inr i)))
-    where
-      by : (b : Bool) → q x ≡ b → list_any g (filter q xs) ≡ list_any g xs → list_any g (cond b (x ∷ filter q xs) (filter q xs)) ≡ (g x || list_any g xs)
-      by true e rest = ap (λ b. g x || b) rest
-      by false e rest = rest ∙ sym (ap (λ b. b || list_any g xs) (h x (inl refl) e))
+  any_both g xs h = without (λ x b. g x || b) (list_any g) (λ x ys. refl) xs (λ x i e b. ap (λ c. c || b) (h x i e))
 
   -- or adds nothing
   sum_both : (f : X → ℕ) (xs : List X) → ((x : X) → In x xs → q x ≡ false → f x ≡ 0) → sum_by f (filter q xs) ≡ sum_by f xs
-  sum_both f xs h = sum_filter f q xs ∙ sum_same (λ x. cond (q x) (f x) 0) f xs (λ x i. by x i (q x) refl)
-    where
-      by : (x : X) → In x xs → (b : Bool) → q x ≡ b → cond b (f x) 0 ≡ f x
-      by x i true e = refl
-      by x i false e = sym (h x i e)
+  sum_both f xs h = without (λ x n. f x + n) (sum_by f) (sum_by-cons f) xs (λ x i e n. omega (arith, h x i e))
 
   -- those of a kind are those that are kept, and the others
   length_both : (p : X → Bool) (xs : List X) → count_by (λ x. p x && not (q x)) xs + length (filter p (filter q xs)) ≡ length (filter p xs)
   length_both p xs =
       let out = λ (x : X). cond (p x && not (q x)) 1 0 in
       let kept = λ (x : X). cond (q x) (cond (p x) 1 0) 0 in
-      ap (λ n. sum_by out xs + n) (sym (counted (filter q xs)) ∙ sum_filter (λ x. cond (p x) 1 0) q xs)
-      ∙ sym (sum_add out kept xs) ∙ sum_same (λ x. out x + kept x) (λ x. cond (p x) 1 0) xs (λ x i. by (p x) (q x)) ∙ counted xs
+      ap (λ n. sum_by out xs + n) (length-filter p (filter q xs) ∙ sum_filter (λ x. cond (p x) 1 0) q xs)
+      ∙ sym (sum_add out kept xs) ∙ sum_same (λ x. out x + kept x) (λ x. cond (p x) 1 0) xs (λ x i. by (p x) (q x)) ∙ sym (length-filter p xs)
     where
-      -- as many as pass a test are counted, one by one
-      counted : (ys : List X) → sum_by (λ x. cond (p x) 1 0) ys ≡ length (filter p ys)
-      counted ys = sym (sum_filter (λ x. 1) p ys) ∙ sum_one (filter p ys)
-
       by : (b c : Bool) → ◌≡◌ {A = ℕ} (cond (b && not c) 1 0 + cond c (cond b 1 0) 0) (cond b 1 0)
       by true true = refl
       by true false = refl
@@ -188,13 +176,13 @@ module _ (images : Images) (layout : Layout) (table : IsTable layout.chunks) (ts
     out : is_needed images layout ts t ≡ false) where
   -- with copies
   copied_out : (n : ℕ) → mirrors t.chunk ≡ Some n → is_copy_needed images layout t ≡ false
-  copied_out n e = sym (ap (λ o. cond (is_none o) (is_row_needed images layout (row_among ts t)) (is_copy_needed images layout t)) e) ∙ out
+  copied_out n e = sym (needed_copy images layout t ts (subst IsSome (sym e) refl)) ∙ out
 
   -- with parity
   module _ (parity : mirrors t.chunk ≡ None) where
     -- its row isn't needed, where there is parity
     row_out : is_row_needed images layout (row_among ts t) ≡ false
-    row_out = sym (ap (λ o. cond (is_none o) (is_row_needed images layout (row_among ts t)) (is_copy_needed images layout t)) parity) ∙ out
+    row_out = sym (needed_row images layout t ts t.chunk t.at.row refl refl parity) ∙ out
 
     -- it is one of its row
     in_own : In t (row_among ts t).blocks
@@ -211,25 +199,6 @@ module _ (images : Images) (layout : Layout) (table : IsTable layout.chunks) (ts
         by None e = absurd (false≢true (sym (no_plain images layout (row_among ts t) (row_out e) t (in_own e)) ∙ bare))
         by (Some n) e = (n, e, sym (ap (λ b. cond b (has_older layout.devices t.chunk) (is_unsound images t)) bare) ∙ copied_out n e)
 
-    -- so no image of its chunk is behind
-    inert : (fails : Failing) → has_behind layout.devices fails t.chunk ≡ false
-    inert fails = inert_chunk fails layout.devices t.chunk copied.2
-
-    -- nothing is written for it
-    plain_writes : (fails : Failing) → mending_writes images fails t ≡ []
-    plain_writes fails = ap (λ b. cond b (fresh_writes images fails t) (block_writes images t)) bare ∙ none_fresh fails layout t copied.0 table is copied.1
-        (inert fails) images
-
-    -- nothing of it is wrong
-    plain_wrong : (fails : Failing) → wrong_parts images fails t ≡ []
-    plain_wrong fails = ap (λ b. cond b (stale_parts images fails t) (bad_parts images t)) bare ∙ none_stale fails layout t copied.0 table is copied.1
-        (inert fails) images
-
-    -- it fails on no image
-    plain_good : (slot : ℕ) (part : Part) → fails_at images t slot part ≡ false
-    plain_good slot part = ap (λ b. is_on t slot part && not b) (passes_plain t.setting t.want (element images t part) bare)
-        ∙ and-false (is_on t slot part)
-
   -- a sound block
   module _ (checked : is_plain t.want ≡ false) where
     -- no place of it is bad, and it isn't lost
@@ -243,10 +212,6 @@ module _ (images : Images) (layout : Layout) (table : IsTable layout.chunks) (ts
             (sym (ap (λ b. cond b (has_older layout.devices t.chunk) (is_unsound images t)) checked) ∙ copied_out n e) in
             (nil_from_length (bad_parts images t) (no_zero (length (bad_parts images t)) both.0), both.1)
 
-    -- so nothing of it is wrong
-    sound_wrong : (fails : Failing) → wrong_parts images fails t ≡ []
-    sound_wrong fails = ap (λ b. cond b (stale_parts images fails t) (bad_parts images t)) checked ∙ sound.0
-
     -- and it fails on no image at a place of its own
     sound_good : (slot : ℕ) (part : Part) → In part (own_parts t) → fails_at images t slot part ≡ false
     sound_good slot part i =
@@ -256,9 +221,7 @@ module _ (images : Images) (layout : Layout) (table : IsTable layout.chunks) (ts
         -- a sound place is good
         good : (part : Part) → is_sound images t part ≡ true → is_good images t part ≡ true
         good (Mirror k) e = (and_parts (is_good images t (Mirror k)) (are_accepted images t (element images t (Mirror k))) e).0
-        good (Slice k) e = e
-        good P e = e
-        good Q e = e
+        good part e = e
 
   -- so nothing comes of it
   record ComesToNothing : Type 0 where
@@ -273,10 +236,20 @@ module _ (images : Images) (layout : Layout) (table : IsTable layout.chunks) (ts
     where
       by : (b : Bool) → is_plain t.want ≡ b → ComesToNothing
       by true e =
-          record { writes = plain_writes e; wrong = plain_wrong e; lost = ap (λ b. not b && is_lost images t) e; good = λ slot part i. plain_good e slot part }
+          let c = copied e in
+          let inert = λ (fails : Failing). inert_chunk fails layout.devices t.chunk c.2 in
+          record {
+            writes = λ fails. ap (λ b. cond b (fresh_writes images fails t) (block_writes images t)) e
+                ∙ none_fresh fails layout t c.0 table is c.1 (inert fails) images;
+            wrong = λ fails. ap (λ b. cond b (stale_parts images fails t) (bad_parts images t)) e
+                ∙ none_stale fails layout t c.0 table is c.1 (inert fails) images;
+            lost = ap (λ b. not b && is_lost images t) e;
+            good = λ slot part i. ap (λ b. is_on t slot part && not b) (passes_plain t.setting t.want (element images t part) e)
+                ∙ and-false (is_on t slot part);
+          }
       by false e = record {
         writes = λ fails. sound_block images t fails e (sound e).0;
-        wrong = sound_wrong e;
+        wrong = λ fails. ap (λ b. cond b (stale_parts images fails t) (bad_parts images t)) e ∙ (sound e).0;
         lost = ap (λ b. not b && is_lost images t) e ∙ (sound e).1;
         good = sound_good e;
       }
@@ -344,11 +317,7 @@ module _ (images : Images) (layout : Layout) (table : IsTable layout.chunks) (wa
       as_row : (t : Target) → In t ts → is_in_row chunk k t ≡ true → needed t ≡ is_row_needed images layout (row_of (flagged []) ts chunk k)
       as_row t j e =
           let both = and_parts (is_in_chunk chunk t) (eqb t.at.row k) e in
-          let mine = same_start of t (placed t j) both.0 in
-          ap (λ c. cond (is_none (mirrors c)) (is_row_needed images layout (row_of (flagged []) ts c t.at.row)) (is_copy_needed images layout t)) mine
-          ∙ ap (λ n. cond (is_none (mirrors chunk)) (is_row_needed images layout (row_of (flagged []) ts chunk n)) (is_copy_needed images layout t))
-          (eqb-true t.at.row k both.1)
-          ∙ ap (λ o. cond (is_none o) (is_row_needed images layout (row_of (flagged []) ts chunk k)) (is_copy_needed images layout t)) parity
+          needed_row images layout t ts chunk k (same_start of t (placed t j) both.0) (eqb-true t.at.row k both.1) parity
 
       -- so the row has all its blocks, or none of them and isn't needed
       same_or_none : (filter (is_in_row chunk k) us ≡ filter (is_in_row chunk k) ts)
@@ -379,20 +348,6 @@ module _ (images : Images) (layout : Layout) (table : IsTable layout.chunks) (wa
         | inr none ↦ empty (row_of fails us chunk k) none.0 ∙ sym (quiet none.1)
       ]
 
-      -- so it is with its writes
-      row_written : row_writes images layout (row_of fails us chunk k) ≡ row_writes images layout (row_of fails ts chunk k)
-      row_written = same_row (row_writes images layout) [] (λ row e. empty_writes images layout row e)
-          (λ out. quiet_writes images layout (row_of (flagged []) ts chunk k) out fails parity)
-
-      -- how many writes a row's parities have
-      abbrev parity_of : Row → ℕ
-      parity_of r = sum_by (λ q. length (parity_writes images layout r q)) (parities r.chunk.profile)
-
-      -- and with its parities
-      row_parity : (write : Bool) → parity_of (row_of fails us chunk k) ≡ parity_of (row_of fails ts chunk k)
-      row_parity write = same_row parity_of 0 (parity_none fails images layout write us)
-          (λ out. quiet_parity images layout (row_of (flagged []) ts chunk k) out fails parity)
-
     -- the same is written in each chunk
     same_writes : (chunk : Chunk) → In chunk layout.chunks → chunk_writes_for fails layout chunk ks images ≡ chunk_writes_for fails layout chunk wants images
     same_writes chunk i =
@@ -411,7 +366,8 @@ module _ (images : Images) (layout : Layout) (table : IsTable layout.chunks) (wa
         by : (o : Option ℕ) → mirrors chunk ≡ o → rows_writes layout (cond (is_none o) (map (row_of fails us chunk) n) []) images ≡ rows_writes layout
             (cond (is_none o) (map (row_of fails ts chunk) n) []) images
         by None e = flat_mapped (row_writes images layout) (row_writes images layout) (row_of fails us chunk) (row_of fails ts chunk) n
-            (λ k _. row_written chunk i e k)
+            (λ k j. same_row chunk i e k (row_writes images layout) [] (λ row e. empty_writes images layout row e)
+            (λ out. quiet_writes images layout (row_of (flagged []) ts chunk k) out fails e))
         by (Some m) e = refl
 
     -- the same is written in all
@@ -443,7 +399,9 @@ module _ (images : Images) (layout : Layout) (table : IsTable layout.chunks) (wa
           by chunk i None e =
               let n = range_with_len 0 (stripe_length chunk / 65536) in
               sum_map parity_counted (row_of fails us chunk) n
-              ∙ sum_same (λ k. parity_counted (row_of fails us chunk k)) (λ k. parity_counted (row_of fails ts chunk k)) n (λ k j. row_parity chunk i e k write)
+              ∙ sum_same (λ k. parity_counted (row_of fails us chunk k)) (λ k. parity_counted (row_of fails ts chunk k)) n
+              (λ k j. same_row chunk i e k parity_counted 0 (parity_none fails images layout write us)
+              (λ out. quiet_parity images layout (row_of (flagged []) ts chunk k) out fails e))
               ∙ sym (sum_map parity_counted (row_of fails ts chunk) n)
           by chunk i (Some m) e = refl
 

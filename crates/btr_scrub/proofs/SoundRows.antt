@@ -1,16 +1,15 @@
 -- The full stripes of a filesystem of which it is known what was committed: their blocks are apart, and what these get is right.
-use Rattle.std.proofs.Common.{◌≡◌, ◌⊎◌, ℕ, ◌+◌, ◌-◌, ◌*◌, ◌/◌, ◌%◌, ◌≤◌, nat_lt, Bool, true, false, cond, eqb, List, [], ◌∷◌, length, All, Option}
-use Rattle.std.proofs.Common.{Some, None, IsSome, IfSome, Result, Ok, Err, IsOk, refl, sym, ap, ◌∙◌, subst, inl, inr, arith}
-use Rattle.btr_scrub.proofs.Common.{AreApart, Chunk, Elements, Failing, Fault, HasPart, HaveLengths, Images, IsInRow, IsSlice, IsSought, IsSoundRow, Layout}
+use Rattle.std.proofs.Common.{◌≡◌, ℕ, ◌+◌, ◌-◌, ◌*◌, ◌/◌, ◌%◌, ◌≤◌, nat_lt, Bool, true, false, cond, eqb, List, [], ◌∷◌, length, All, Option, Some, None}
+use Rattle.std.proofs.Common.{IsSome, IfSome, Result, Ok, Err, IsOk, refl, sym, ap, ◌∙◌, subst, inl, inr, arith}
+use Rattle.btr_scrub.proofs.Common.{AreApart, Chunk, Elements, Failing, Fault, HasPart, HaveLengths, Images, In, IsInRow, IsSlice, IsSought, IsSoundRow, Layout}
 use Rattle.btr_scrub.proofs.Common.{LiesInRow, Part, Row, Target, Want, accepted, addr_of, all_at, blocks_at, cons_option, data_count, eqb-true, false≢true}
-use Rattle.btr_scrub.proofs.Common.{filter, fresh, is_good, is_in_row, is_plain, is_sound, is_striped, len_of, mirrors, new_bytes, ok_or_none, passes}
-use Rattle.btr_scrub.proofs.Common.{renewed, right_for, row_of, same_Some, size_of, sought, sought_of, stale_parts, stripe_length, targets, without_copies}
+use Rattle.btr_scrub.proofs.Common.{filter, fresh, is_good, is_in_row, is_plain, is_sound, is_striped, len_of, mirrors, ok_or_none, passes, renewed, right_for}
+use Rattle.btr_scrub.proofs.Common.{row_of, same_Some, size_of, sought, sought_of, stale_parts, stripe_length, targets, without_copies}
 use Rattle.std.proofs.Math.Nat.{div-add-mod}
 use Rattle.btr_read.specs.Candidates.{element}
 use Rattle.btr_read.specs.Fate.{passing, passing_for}
 use Rattle.btr_scrub_copies.proofs.Firsts.{sound_place}
 use Rattle.btr_scrub_row.specs.Rows as rows
-use Rattle.btr_scrub.specs.BlocksInRows.{In}
 use Rattle.btr_scrub.specs.Right.{AllPass, AreBytes, Committed, IsHonest}
 use Rattle.btr_scrub.specs.Staying.{IsRowOf}
 use Rattle.btr_scrub.specs.Survival.{AcceptsRight, AreBehind, GetsRight, RightPasses}
@@ -20,7 +19,7 @@ use Rattle.btr_scrub.proofs.Lists.{in_filter, some_of, first_in, in_more}
 use Rattle.btr_scrub.proofs.Positions.{bounds_of}
 use Rattle.btr_chunk.proofs.Bytes.{striped-position}
 use Rattle.btr_scrub.proofs.RowWrites.{IsBlockOf, block_in_row, block_lies, no_copies}
-use Rattle.btr_scrub.proofs.Survival.{elements_are_slices, of_filter, right_checked, right_plain}
+use Rattle.btr_scrub.proofs.Survival.{elements_are_slices, of_filter}
 use Rattle.btr_scrub.proofs.CopyWrites.{fresh_from}
 use Rattle.btr_scrub.proofs.Elements.{block_of_element}
 use Rattle.btr_scrub.proofs.RowValues.{value_whole}
@@ -58,33 +57,23 @@ module _ (layout : Layout) (p q : Target → Bool) (base : ℕ) where
   AreAt ts = (t : Target) → In t ts → p t ≡ true → q t ≡ true → addr_of t.want ≡ base + t.at.rest
 
   -- one more, before others
-  module _ (w : Want) (ws : List Want) (end e : ℕ) (apart : AreApart layout end (w ∷ ws)) (from : (e ≡ 0) ⊎ (base + e ≤ end))
+  module _ (w : Want) (ws : List Want) (end e : ℕ) (apart : AreApart layout end (w ∷ ws)) (from : e ≤ end - base)
       (at : AreAt (targets layout (w ∷ ws)))
-      (rest : (f : ℕ) → (f ≡ 0) ⊎ (base + f ≤ addr_of w + len_of layout.setting w) → AreBehind f (filter q (filter p (targets layout ws)))) where
-    -- where the last one ended is before the end of this want, too
-    past : (e ≡ 0) ⊎ (base + e ≤ end) → (e ≡ 0) ⊎ (base + e ≤ addr_of w + len_of layout.setting w)
-    past (inl z) = inl z
-    past (inr le) = inr (omega (arith, le, apart.0))
-
+      (rest : (f : ℕ) → f ≤ addr_of w + len_of layout.setting w - base → AreBehind f (filter q (filter p (targets layout ws)))) where
     module _ (t : Target) (s : sought layout w ≡ Ok t) where
-      -- the block begins behind the last one
-      begins : (e ≡ 0) ⊎ (base + e ≤ end) → addr_of t.want ≡ base + t.at.rest → e ≤ t.at.rest
-      begins (inl z) a = omega (arith, z)
-      begins (inr le) a = omega (arith, le, apart.0, a, ap addr_of (sought_of layout w t s).want_is)
-
       -- where it passes the first test, it is apart with those behind it, whether it passes the second or not
       and : (c : Bool) → p t ≡ true → q t ≡ c → AreBehind e (cond c (t ∷ filter q (filter p (targets layout ws))) (filter q (filter p (targets layout ws))))
       and true pe qe =
           let o = sought_of layout w t s in
           let size : size_of t ≡ len_of layout.setting w = ap (λ g. len_of g t.want) o.setting_is ∙ ap (len_of layout.setting) o.want_is in
           let a = at t (subst (λ r. In t (cons_option (ok_or_none r) (targets layout ws))) (sym s) (inl refl)) pe qe in
-          (begins from a, rest (t.at.rest + size_of t) (inr (omega (arith, a, size, ap addr_of o.want_is))))
-      and false pe qe = rest e (past from)
+          (omega (arith, from, apart.0, a, ap addr_of o.want_is), rest (t.at.rest + size_of t) (omega (arith, a, size, ap addr_of o.want_is)))
+      and false pe qe = rest e (omega (arith, from, apart.0))
 
       -- so it is whether it passes the first test or not
       or : (b : Bool) → p t ≡ b → AreBehind e (filter q (cond b (t ∷ filter p (targets layout ws)) (filter p (targets layout ws))))
       or true pe = and (q t) pe refl
-      or false pe = rest e (past from)
+      or false pe = rest e (omega (arith, from, apart.0))
 
     -- so it is with the want, which has a position
     of_sought : (r : Result Target Fault) → sought layout w ≡ r → AreBehind e (filter q (filter p (cons_option (ok_or_none r) (targets layout ws))))
@@ -92,7 +81,7 @@ module _ (layout : Layout) (p q : Target → Bool) (base : ℕ) where
     of_sought (Ok t) s = or t s (p t) refl
 
   -- so are all of a list
-  pub apart_behind : (wants : List Want) (end e : ℕ) → AreApart layout end wants → (e ≡ 0) ⊎ (base + e ≤ end) → AreAt (targets layout wants)
+  pub apart_behind : (wants : List Want) (end e : ℕ) → AreApart layout end wants → e ≤ end - base → AreAt (targets layout wants)
       → AreBehind e (filter q (filter p (targets layout wants)))
   apart_behind [] end e apart from at = tt
   apart_behind (w ∷ ws) end e apart from at =
@@ -148,12 +137,10 @@ module _ {kept : Failing} {images : Images} {layout : Layout} {C : Committed} {w
     spaced : (i : ℕ) → AreBehind 0 (blocks_at row i)
     spaced i =
         let k = data_count chunk.profile (length chunk.stripes) in
-        apart_behind layout (is_in_row chunk r) (λ t. eqb t.at.index i) (chunk.start + (k * r + i) * 65536) wants 0 0 apart (inl refl) (λ t among mine at.
+        apart_behind layout (is_in_row chunk r) (λ t. eqb t.at.index i) (chunk.start + (k * r + i) * 65536) wants 0 0 apart (omega arith) (λ t among mine at.
         let b = of.blocks t (in_it t among mine) in
         address_is layout t b.is (no_copies layout row s.of.table of.is t b)
-        ∙ ap (λ (c : Chunk). c.start + (data_count c.profile (length c.stripes) * t.at.row + t.at.index) * 65536 + t.at.rest) b.chunk
-        ∙ ap (λ n. chunk.start + (k * n + t.at.index) * 65536 + t.at.rest) b.number
-        ∙ ap (λ n. chunk.start + (k * r + n) * 65536 + t.at.rest) (eqb-true t.at.index i at))
+        ∙ rw (b.chunk, b.number, eqb-true t.at.index i at))
       where
         -- a block of the wants that lies in this full stripe is one of its blocks
         in_it : (t : Target) → In t (targets layout wants) → is_in_row chunk r t ≡ true → In t row.blocks
@@ -206,10 +193,8 @@ module _ {kept : Failing} {images : Images} {layout : Layout} {C : Committed} {w
 
           -- so it is with a plain sector and with a checked block
           at : (c : Bool) → is_plain t.want ≡ c → IfSome (right_for images C row t) (IsSlice (size_of t))
-          at true plain = subst (λ o. IfSome o (IsSlice (size_of t)))
-              (sym (right_plain images C row t plain ∙ ap (λ c. cond c (renewed images kept t) (accepted images t)) plain))
-              (renewed_whole (nat_lt 0 (length (stale_parts images kept t))))
-          at false checked = subst (λ o. IfSome o (IsSlice (size_of t))) (sym (right_checked images C row t checked)) (had.slices t among checked)
+          at true plain = rw plain (renewed_whole (nat_lt 0 (length (stale_parts images kept t))))
+          at false checked = rw checked (had.slices t among checked)
 
       -- what it gets is right
       gets_right : GetsRight images C row t
@@ -220,11 +205,8 @@ module _ {kept : Failing} {images : Images} {layout : Layout} {C : Committed} {w
           same (Some bytes) = refl
 
           at : (c : Bool) → is_plain t.want ≡ c → GetsRight images C row t
-          at true plain = subst (λ o. IfSome (new_bytes images kept t) (λ bytes. o ≡ Some bytes)) (sym (right_plain images C row t plain))
-              (same (new_bytes images kept t))
-          at false checked = subst (λ o. IfSome (new_bytes images kept t) (λ bytes. o ≡ Some bytes)) (sym (right_checked images C row t checked))
-              (subst (λ c. IfSome (cond c (renewed images kept t) (accepted images t)) (λ bytes. C t.want ≡ Some bytes)) (sym checked)
-              (accepts_right t among checked))
+          at true plain = rw plain (same (renewed images kept t))
+          at false checked = rw checked (accepts_right t among checked)
 
     -- it is sound
     pub sound_row : IsSoundRow images layout C row

@@ -1,12 +1,9 @@
 -- What isn't wrong stays.
 use Rattle.std.proofs.Common.{◌≡◌, ◌⊎◌, ℕ, ◌+◌, ◌-◌, ◌<◌, ◌≤◌, Bool, true, false, List, [], length, get_or, slice_get, Option, Some, None, IsSome, IsSomeAnd}
 use Rattle.std.proofs.Common.{is_some, refl, sym, ap, ◌∙◌, subst, inl, inr, arith}
-use Rattle.btr_scrub.proofs.Common.{Chunk, Failing, HaveOwnSlots, Images, IsOfElement, IsTable, Layout, Part, Row, Target, device_in, false_from_ne_true}
-use Rattle.btr_scrub.proofs.Common.{false≢true, filter, image_of, is_in_row, length-slice_range, list_any, mirrors, option_map_or, place_at, range_in}
-use Rattle.btr_scrub.proofs.Common.{range_in_element, range_stands, same_Some, stands_on, stripe_of}
-use Rattle.btr_rack.specs.Rack.{bytes_of}
-use Rattle.btr_rack.specs.declared.place.Place.{Place as Range}
-use Rattle.btr_scrub.specs.Repair.{covers}
+use Rattle.btr_scrub.proofs.Common.{Chunk, Failing, HaveOwnSlots, Images, IsOfElement, IsTable, Layout, Part, Range, Row, Target, bytes_of, covers}
+use Rattle.btr_scrub.proofs.Common.{false_from_ne_true, false≢true, filter, image_of, is_in_row, length-slice_range, list_any, mirrors, option_map_or, range_in}
+use Rattle.btr_scrub.proofs.Common.{range_in_element, same_Some, stripe_of}
 use Rattle.btr_scrub.specs.Columns.{Committed, IsWrongAt}
 use Rattle.btr_scrub_row.specs.Rows.{element}
 use Rattle.btr_scrub.specs.Staying.{AvoidRight, IsInCopies, IsInWrong, IsRowOf, RightStays, RowOutlivesWrites}
@@ -14,6 +11,7 @@ use Rattle.btr_chunk.specs.Apart.{LiesIn}
 use Rattle.btr_chunk.proofs.Apart.{stripes_apart}
 use Rattle.btr_scrub.proofs.Places.{covered, elements_apart, is_at}
 use Rattle.btr_scrub.proofs.Columns.{row_survives}
+use Rattle.btr_scrub.proofs.Elements.{begins_at, start_of}
 use Rattle.btr_scrub.proofs.Survival.{at_range}
 
 -- one place of an element has a byte of a slot
@@ -116,10 +114,8 @@ right_stays images left layout C fails blocks row ranges table own lengths is_ro
     -- where an element stands
     there : (q : Part) → IsSome (range q) → (r : Range) × (range q ≡ Some r) × (r.off + r.len ≤ length (image_of images r.slot)) × (r.len ≡ 65536)
     there q some =
-        let place = place_at row.chunk q (record { row = row.number; index = 0; rest = 0 }) in
-        let s = stands_on place.offset 65536 (device_in layout.devices place.devid) some in
-        let e = range_stands place.offset 65536 (device_in layout.devices place.devid) s.device s.there s.within in
-        (range_in s.device.slot place.offset 65536, e, omega (arith, s.within, lengths place.devid s.device s.there), refl)
+        let b = begins_at layout row q some in
+        (range_in b.device.slot (start_of row q).offset 65536, b.whole, omega (arith, b.within, lengths (start_of row q).devid b.device b.given), refl)
 
 -- behind such writes a checked block, right at its own place or with few elements wrong there, can be had still
 pub row_outlives_writes : RowOutlivesWrites

@@ -1,17 +1,14 @@
 -- What is written beside flags is what is written beside the images that fail.
-use Rattle.std.proofs.Common.{◌≡◌, ℕ, Bool, true, false, cond, ◌||◌, List, [], ◌∷◌, Some, None, is_none, IfSome, OnOk, Result, Err, refl, sym, ap, ◌∙◌, subst}
-use Rattle.std.proofs.Common.{inl, inr}
+use Rattle.std.proofs.Common.{◌≡◌, ℕ, Bool, false, cond, List, [], Some, None, is_none, IfSome, OnOk, Result, Err, refl, sym, ap, ◌∙◌, subst, inl, inr}
 use Rattle.std.proofs.Math.Path.{fun_ext}
-use Rattle.btr_scrub.proofs.Common.{AccountsMend, Chunk, Failing, HaveOwnSlots, Image, Images, IsOfScrub, IsSought, IsTable, Layout, LiesInStripe, Memory}
-use Rattle.btr_scrub.proofs.Common.{MendFault, NoneFailed, OnlyReads, Seen, Tally, Target, Want, Works, Write, accepted, all_count_for, all_writes_for}
-use Rattle.btr_scrub.proofs.Common.{bad_parts, block_writes, chunk_count_for, chunk_writes_for, counted, counted_plain, failing, false≢true, first_missing}
-use Rattle.btr_scrub.proofs.Common.{flagged, has_behind, has_older, is_in_chunk, is_in_row, is_plain, list_any, listed_count_for, listed_writes_for}
-use Rattle.btr_scrub.proofs.Common.{mended_of, mirrors, passing_filter, plain, reads_more, row_of, sites_in, sought_of, stale_parts, targets, waiting}
-use Rattle.btr_scrub.proofs.Common.{writes_if}
+use Rattle.btr_scrub.proofs.Common.{AccountsMend, Chunk, Failing, HaveOwnSlots, Image, Images, In, IsOfScrub, IsSought, IsTable, Layout, LiesInStripe, Memory}
+use Rattle.btr_scrub.proofs.Common.{MendFault, NoneFailed, OnlyReads, Seen, Tally, Target, Want, Works, Write, all_count_for, all_writes_for, chunk_count_for}
+use Rattle.btr_scrub.proofs.Common.{chunk_writes_for, counted, counted_plain, failing, false≢true, first_missing, flagged, has_behind, has_older, is_in_chunk}
+use Rattle.btr_scrub.proofs.Common.{is_in_row, is_plain, list_any, listed_count_for, listed_writes_for, mended_of, mirrors, passing_filter, plain, reads_more}
+use Rattle.btr_scrub.proofs.Common.{row_of, sites_in, sought_of, targets, waiting, writes_if}
 use Rattle.btr_scrub_copies.specs.Syncing.{Strands}
 use Rattle.btr_scrub_copies.proofs.Doing.{does_behind, does_failed}
-use Rattle.btr_scrub_copies.proofs.Turning.{read_at, reads_plain, strands_none}
-use Rattle.btr_scrub.specs.BlocksInRows.{In}
+use Rattle.btr_scrub_copies.proofs.Turning.{fails_plain, read_at, reads_plain, strands_none}
 use Rattle.btr_scrub.specs.Judged.{AreFailing, IsIdle, Suffices, some_older, some_parity}
 use Rattle.btr_scrub.specs.Whole.{listed_failing}
 use Rattle.btr_scrub.proofs.AcrossChunks.{of_chunk, chunk_alike, chunk_counted}
@@ -27,18 +24,18 @@ use Rattle.btr_scrub.proofs.Agreeing.{SiteAlike}
 -- ---- what is written and counted alike
 
 module _ (kept also : Failing) (layout : Layout) (wants : List Want) (images : Images) where
-  pub record Alike (chunk : Chunk) : Type 0 where
-    pub rows : mirrors chunk ≡ None → (number : ℕ) → RowAlike images images layout (row_of also (targets layout wants) chunk number) kept
-    pub sites : (n : ℕ) → mirrors chunk ≡ Some n → (t : Target) → In t (sites_in layout chunk wants) → SiteAlike also kept images images t
+  record Alike (chunk : Chunk) : Type 0 where
+    rows : mirrors chunk ≡ None → (number : ℕ) → RowAlike images images layout (row_of also (targets layout wants) chunk number) kept
+    sites : (n : ℕ) → mirrors chunk ≡ Some n → (t : Target) → In t (sites_in layout chunk wants) → SiteAlike also kept images images t
 
   -- chunks in which the same is written are written alike
-  pub all_writes_alike : (chunks : List Chunk) → ((chunk : Chunk) → In chunk chunks → Alike chunk)
+  all_writes_alike : (chunks : List Chunk) → ((chunk : Chunk) → In chunk chunks → Alike chunk)
       → all_writes_for kept layout chunks wants images ≡ all_writes_for also layout chunks wants images
   all_writes_alike chunks h = flat_same (λ chunk. chunk_writes_for kept layout chunk wants images) (λ chunk. chunk_writes_for also layout chunk wants images)
       chunks (λ chunk i. chunk_alike kept also images images layout wants chunk (λ none k _. (h chunk i).rows none k) (h chunk i).sites)
 
   -- and counted alike
-  pub all_count_alike : (write : Bool) (chunks : List Chunk) (tally : Tally) → ((chunk : Chunk) → In chunk chunks → Alike chunk)
+  all_count_alike : (write : Bool) (chunks : List Chunk) (tally : Tally) → ((chunk : Chunk) → In chunk chunks → Alike chunk)
       → all_count_for kept layout write chunks wants images tally ≡ all_count_for also layout write chunks wants images tally
   all_count_alike write chunks tally h = fold_same (λ x chunk. chunk_count_for kept layout write chunk wants images x)
       (λ x chunk. chunk_count_for also layout write chunk wants images x) chunks tally
@@ -46,33 +43,19 @@ module _ (kept also : Failing) (layout : Layout) (wants : List Want) (images : I
 
 -- ---- flags that suffice
 
--- where no chunk of a list is found to have parity, each has copies
-no_parity : (chunk : Chunk) (chunks : List Chunk) → some_parity chunks ≡ false → In chunk chunks → mirrors chunk ≡ None → ⊥
-no_parity chunk [] e i none = i
-no_parity chunk (c ∷ chunks) e i none = by (is_none (mirrors c)) refl e i (λ e j. no_parity chunk chunks e j none)
-  where
-    -- so it is whether the first has parity or not
-    by : (b : Bool) → is_none (mirrors c) ≡ b → (b || some_parity chunks) ≡ false → In chunk (c ∷ chunks)
-        → (some_parity chunks ≡ false → In chunk chunks → ⊥) → ⊥
-    by true is e i rest = false≢true (sym e)
-    by false is e (inl same) rest = false≢true (sym is ∙ ap (λ (k : Chunk). is_none (mirrors k)) same ∙ ap is_none none)
-    by false is e (inr j) rest = rest e j
-
 -- a plain sector is mended alike where no image is behind
 inert_alike : (fails also : Failing) (layout : Layout) (t : Target) (n : ℕ) (images : Images) → IsTable layout.chunks → IsSought layout t
     → mirrors t.chunk ≡ Some n → ((f : Failing) → has_behind layout.devices f t.chunk ≡ false) → SiteAlike also fails images images t
 inert_alike fails also layout t n images table is has inert =
-    let stale : stale_parts images fails t ≡ stale_parts images also t =
-    none_stale fails layout t n table is has (inert fails) images ∙ sym (none_stale also layout t n table is has (inert also) images) in
-    let p = is_plain t.want in
+    let stale = λ (f : Failing). none_stale f layout t n table is has (inert f) images in
+    let fresh = λ (f : Failing). none_fresh f layout t n table is has (inert f) images in
+    let renewed = λ (f : Failing). none_renewed f layout t n table is has (inert f) images in
     record {
-      writes = ap (λ ws. cond p ws (block_writes images t))
-          (none_fresh fails layout t n table is has (inert fails) images ∙ sym (none_fresh also layout t n table is has (inert also) images));
-      wrong = ap (λ ps. cond p ps (bad_parts images t)) stale;
-      bytes = ap (λ o. cond p o (accepted images t))
-          (none_renewed fails layout t n table is has (inert fails) images ∙ sym (none_renewed also layout t n table is has (inert also) images));
+      writes = rw (fresh fails, fresh also);
+      wrong = rw (stale fails, stale also);
+      bytes = rw (renewed fails, renewed also);
       lost = refl;
-      counts = λ write tally. ap (λ m. cond p (counted_plain tally m) (counted tally (mended_of images t write)))
+      counts = λ write tally. ap (λ m. cond (is_plain t.want) (counted_plain tally m) (counted tally (mended_of images t write)))
           (none_freshened fails layout t n table is has (inert fails) images write
           ∙ sym (none_freshened also layout t n table is has (inert also) images write));
     }
@@ -113,7 +96,8 @@ module _ (layout : Layout) (wants : List Want) (rack : Seen) (flags : List Bool)
   all_young copies young chunk j =
       let at = at_in chunk layout.chunks j in
       record {
-        rows = λ parity. absurd (no_parity chunk layout.chunks copies j parity);
+        rows = λ parity.
+            absurd (false≢true (sym (none_in (λ (c : Chunk). is_none (mirrors c)) layout.chunks chunk copies j) ∙ ap is_none parity));
         sites = λ n has t i.
             let of = of_chunk by_flags layout table own given at.0 chunk at.1 wants t i in
             inert_alike by_flags by_images layout t n images table of.is (ap mirrors of.chunk_is ∙ has) (λ f.
@@ -127,14 +111,14 @@ module _ (layout : Layout) (wants : List Want) (rack : Seen) (flags : List Bool)
   all_idle (inr young) chunk i = all_young young.0 young.1 chunk i
 
   -- the writes by the flags are those for the list
-  pub flags_write : all_writes_for by_flags layout layout.chunks wants images ≡ listed_writes_for layout wants images
+  flags_write : all_writes_for by_flags layout layout.chunks wants images ≡ listed_writes_for layout wants images
   flags_write = elim suffice [
     | inl idle ↦ all_writes_alike by_flags by_images layout wants images layout.chunks (all_idle idle)
     | inr are ↦ ap (λ d. all_writes_for d layout layout.chunks wants images) (failing_same are)
   ]
 
   -- and so are the counts
-  pub flags_count : (write : Bool) (tally : Tally)
+  flags_count : (write : Bool) (tally : Tally)
       → all_count_for by_flags layout write layout.chunks wants images tally ≡ listed_count_for layout write wants images tally
   flags_count write tally = elim suffice [
     | inl idle ↦ all_count_alike by_flags by_images layout wants images write layout.chunks tally (all_idle idle)
@@ -145,7 +129,7 @@ module _ (layout : Layout) (wants : List Want) (rack : Seen) (flags : List Bool)
 
 module _ (layout : Layout) (write : Bool) (f : Images → List Write) (c : Images → Tally → Tally) (a b : Seen) (reads : OnlyReads a b) where
   -- a work behind reads
-  pub works_behind : (z : Seen) (t u : Tally) (r : Result (Unit {0}) MendFault) → NoneFailed a.account b.account → Works layout write f c b z t u r
+  works_behind : (z : Seen) (t u : Tally) (r : Result (Unit {0}) MendFault) → NoneFailed a.account b.account → Works layout write f c b z t u r
       → Works layout write f c a z t u r
   works_behind z t u r none h = record {
     does = does_behind (IsOfScrub layout) (λ i. writes_if write (f i)) [] [] (plain a) (plain b) (plain z) r (reads_plain a b reads) none h.does;
@@ -160,13 +144,8 @@ module _ (layout : Layout) (write : Bool) (f : Images → List Write) (c : Image
   -- a call that failed in a stripe failed at a place of a scrub
   account_scrub : (B : Type 0) (e : MendFault) → AccountsMend {A = B} (LiesInStripe layout) a b (Err e)
       → AccountsMend {A = Unit {0}} (IsOfScrub layout) (plain a) (plain b) (Err e)
-  account_scrub B (Image slot) h = record {
-    place = h.place;
-    failed = record { one = h.failed.one; read = h.failed.read; shut = h.failed.shut; unsure = h.failed.unsure };
-    on_slot =
-        h.on_slot;
-    lies = inr h.lies;
-  }
+  account_scrub B (Image slot) h =
+      fails_plain {A = Unit {0}} (LiesInStripe layout) (IsOfScrub layout) a b (Err (Image slot)) (λ range i. inr i) h
   account_scrub B Memory h = h
 
   -- a call that came to a halt before any write works so

@@ -1,10 +1,10 @@
 -- Sums over lists that are taken apart.
 use Rattle.std.proofs.Common.{◌≡◌, ◌≢◌, ℕ, zero, suc, ◌+◌, Bool, true, false, cond, List, [], ◌∷◌, map, length, slice_get, Some, refl, sym, ap, ◌∙◌, inl, inr}
 use Rattle.std.proofs.Common.{arith, zero-add}
-use Rattle.btr_scrub.proofs.Common.{filter, flat_map, same_Some, sum_by, sum_by-cons}
+use Rattle.btr_scrub.proofs.Common.{In, false≢true, filter, flat_map, same_Some, sum_by, sum_by-cons}
 use Rattle.std.proofs.lemmas.List.Sums.{sum_by-append}
-use Rattle.btr_scrub.specs.BlocksInRows.{In}
 use Rattle.btr_scrub.proofs.AcrossChunks.{sum_same}
+use Rattle.btr_scrub.proofs.Grouping.{filter_all}
 use Rattle.btr_scrub.proofs.Lists.{at_in}
 
 -- a sum of nothing is nothing
@@ -73,14 +73,6 @@ once_sum n p (l ∷ ks) (suc i) k at is others =
       once_sum n p ks i k at is (λ j other ne found. others (suc j) other (λ e. ne (omega (arith, e))) found),
     )
 
--- a sum part by part, where each member is in one part
-pub sum_parts : {K X : Type 0} (f : X → ℕ) (p : K → X → Bool) (ks : List K) (xs : List X) → ((x : X) → In x xs → IsOnce (λ k. p k x) ks)
-    → sum_by (λ k. sum_by f (filter (p k) xs)) ks ≡ sum_by f xs
-sum_parts f p ks xs once =
-    sum_same (λ k. sum_by f (filter (p k) xs)) (λ k. sum_by (λ x. cond (p k x) (f x) 0) xs) ks (λ k i. sum_filter f (p k) xs)
-    ∙ sum_swap (λ k x. cond (p k x) (f x) 0) ks xs
-    ∙ sum_same (λ x. sum_by (λ k. cond (p k x) (f x) 0) ks) f xs (λ x i. let o = once x i in once_sum (f x) (λ k. p k x) ks o.0 o.1.0 o.1.1 o.1.2 o.1.3)
-
 -- a sum part by part, where each member is in one part, or in none if it doesn't pass another test
 pub sum_parts_of : {K X : Type 0} (f : X → ℕ) (p : K → X → Bool) (q : X → Bool) (ks : List K) (xs : List X)
     → ((x : X) → In x xs → q x ≡ true → IsOnce (λ k. p k x) ks) → ((x : X) (k : K) → q x ≡ false → p k x ≡ false)
@@ -94,3 +86,9 @@ sum_parts_of f p q ks xs once never =
     by : (x : _) → In x xs → (b : Bool) → q x ≡ b → sum_by (λ k. cond (p k x) (f x) 0) ks ≡ cond (q x) (f x) 0
     by x i true e = let o = once x i e in once_sum (f x) (λ k. p k x) ks o.0 o.1.0 o.1.1 o.1.2 o.1.3 ∙ ap (λ b. cond b (f x) 0) (sym e)
     by x i false e = sum_zero (λ k. cond (p k x) (f x) 0) ks (λ k j. ap (λ b. cond b (f x) 0) (never x k e)) ∙ ap (λ b. cond b (f x) 0) (sym e)
+
+-- a sum part by part, where each member is in one part
+pub sum_parts : {K X : Type 0} (f : X → ℕ) (p : K → X → Bool) (ks : List K) (xs : List X) → ((x : X) → In x xs → IsOnce (λ k. p k x) ks)
+    → sum_by (λ k. sum_by f (filter (p k) xs)) ks ≡ sum_by f xs
+sum_parts f p ks xs once = sum_parts_of f p (λ x. true) ks xs (λ x i e. once x i) (λ x k e. absurd (false≢true (sym e)))
+    ∙ ap (sum_by f) (filter_all (λ x. true) xs (λ x i. refl))

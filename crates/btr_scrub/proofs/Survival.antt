@@ -1,9 +1,9 @@
 -- The blocks of a full stripe as they should be.
-use Rattle.std.proofs.Common.{◌≡◌, ℕ, ◌+◌, ◌-◌, ◌<◌, ◌≤◌, Bool, true, false, cond, eqb, List, [], ◌∷◌, ◌++◌, length, get_or, take, drop, slice_range, Option}
-use Rattle.std.proofs.Common.{Some, None, IfSome, IsNone, All, refl, sym, ap, ◌∙◌, subst, inl, inr, arith}
-use Rattle.btr_scrub.proofs.Common.{HasPart, Images, IsSlice, IsSoundRow, Layout, Part, Row, Target, blocks_at, cases_lt, device_in, element_with, eq-eqb}
-use Rattle.btr_scrub.proofs.Common.{filter, image_of, is_plain, length-pasted, length-slice_range, mirror_count, new_bytes, option_map_or, parity_p, parity_q}
-use Rattle.btr_scrub.proofs.Common.{passing_filter, pasted, place_at, range_stands, right_for, size_of, slices_with, stands_on}
+use Rattle.std.proofs.Common.{◌≡◌, ◌⊎◌, ℕ, ◌+◌, ◌-◌, ◌<◌, ◌≤◌, Bool, true, false, cond, eqb, List, [], ◌∷◌, ◌++◌, length, get_or, take, drop, slice_range}
+use Rattle.std.proofs.Common.{Option, Some, None, IfSome, IsNone, All, refl, sym, ap, ◌∙◌, subst, inl, inr, arith}
+use Rattle.btr_scrub.proofs.Common.{HasPart, Images, In, IsSlice, IsSoundRow, Layout, Part, Range, Row, Target, blocks_at, cases_lt, device_in, element_with}
+use Rattle.btr_scrub.proofs.Common.{eq-eqb, filter, image_of, is_plain, length-pasted, length-slice_range, mirror_count, new_bytes, option_map_or, parity_p}
+use Rattle.btr_scrub.proofs.Common.{parity_q, passing_filter, pasted, place_at, range_stands, right_for, size_of, slices_with, stands_on}
 use Rattle.std.proofs.lemmas.List.{ext_get_or, get_or-take, get_or-drop, get_or_past}
 use Rattle.std.proofs.lemmas.List.Elements.{All-append, All-nil, All-take, All-drop}
 use Rattle.std.proofs.lemmas.List.FromFn.{length-map-range_with_len, get_or-map-range_with_len}
@@ -12,13 +12,12 @@ use Rattle.btr_chunk.specs.declared.place.Part.TheVariants as part
 use Rattle.btr_parity.specs.Ways.{Stripe, IsConsistent}
 use Rattle.btr_parity.proofs.Lost.{parity_p_slice, weighted_slice}
 use Rattle.btr_rack.specs.Rack.{bytes_of}
-use Rattle.btr_rack.specs.declared.place.Place.{Place as Range}
-use Rattle.btr_scrub.specs.BlocksInRows.{In, right_bytes}
+use Rattle.btr_scrub.specs.BlocksInRows.{right_bytes}
 use Rattle.btr_scrub.specs.Columns.{Committed}
 use Rattle.btr_scrub_row.specs.Rows as rows
 use Rattle.btr_scrub_row.specs.Rows.{element, slice_with, with_block}
 use Rattle.btr_scrub.specs.Survival.{AreBehind, ElementsAreSlices}
-use Rattle.btr_scrub_row.proofs.Pasted.{pasted-below, range_pasted}
+use Rattle.btr_scrub_row.proofs.Pasted.{pasted-above, pasted-below, range_pasted}
 use Rattle.btr_scrub.proofs.Stripes.{no_mirror}
 use Rattle.btr_scrub.proofs.Lists.{in_filter}
 
@@ -56,58 +55,61 @@ module _ (images : Images) (layout : Layout) (given : Target → Option (List �
     pub bytes : IfSome (given t) (IsSlice (size_of t))
 
   -- a slice with one block put into it is a slice
-  one_slice : (t : Target) (o : Option (List ℕ)) (xs : List ℕ) → t.at.rest + size_of t ≤ 65536 → IfSome o (IsSlice (size_of t)) → IsSlice 65536 xs
-      → IsSlice 65536 (option_map_or (pasted xs t.at.rest) o xs)
-  one_slice t None xs inside fits is = is
-  one_slice t (Some b) xs inside fits is = slice_pasted 65536 xs t.at.rest b (omega (arith, inside, fits.long)) is fits.bytes
+  pub one_slice : (t : Target) (xs : List ℕ) → Fits t → IsSlice 65536 xs → IsSlice 65536 (with_block images layout given xs t)
+  one_slice t xs f is = by (given t) f.bytes
+    where
+      by : (o : Option (List ℕ)) → IfSome o (IsSlice (size_of t)) → IsSlice 65536 (option_map_or (pasted xs t.at.rest) o xs)
+      by None fits = is
+      by (Some b) fits = slice_pasted 65536 xs t.at.rest b (omega (arith, f.inside, fits.long)) is fits.bytes
+
+  -- a byte outside of the block's place is as before
+  pub outside : (t : Target) (xs : List ℕ) (i d : ℕ) → Fits t → IsSlice 65536 xs → (i < t.at.rest) ⊎ (t.at.rest + size_of t ≤ i)
+      → get_or (with_block images layout given xs t) i d ≡ get_or xs i d
+  outside t xs i d f is out = by (given t) f.bytes out
+    where
+      by : (o : Option (List ℕ)) → IfSome o (IsSlice (size_of t)) → (i < t.at.rest) ⊎ (t.at.rest + size_of t ≤ i)
+          → get_or (option_map_or (pasted xs t.at.rest) o xs) i d ≡ get_or xs i d
+      by None fits out = refl
+      by (Some b) fits (inl lt) = pasted-below xs t.at.rest b (omega (arith, f.inside, fits.long, is.long)) i d lt
+      by (Some b) fits (inr le) = pasted-above xs t.at.rest b (omega (arith, f.inside, fits.long, is.long)) i d (omega (arith, le, fits.long))
 
   -- a slice with blocks put into it is a slice
   pub fold_slice : (ts : List Target) (xs : List ℕ) → ((t : Target) → In t ts → Fits t) → IsSlice 65536 xs
       → IsSlice 65536 (fold (with_block images layout given) xs ts)
   fold_slice [] xs fit is = is
   fold_slice (t ∷ ts) xs fit is =
-      let f = fit t (inl refl) in
-      fold_slice ts (with_block images layout given xs t) (λ u i. fit u (inr i)) (one_slice t (given t) xs f.inside f.bytes is)
+      fold_slice ts (with_block images layout given xs t) (λ u i. fit u (inr i)) (one_slice t xs (fit t (inl refl)) is)
 
-  -- blocks behind a place leave what is before it
-  one_keeps : (t : Target) (o : Option (List ℕ)) (xs : List ℕ) (a b : ℕ) → b ≤ t.at.rest → t.at.rest + size_of t ≤ 65536
-      → IfSome o (IsSlice (size_of t)) → IsSlice 65536 xs → slice_range (option_map_or (pasted xs t.at.rest) o xs) a b ≡ slice_range xs a b
-  one_keeps t None xs a b le inside fits is = refl
-  one_keeps t (Some bytes) xs a b le inside fits is =
-      let within : t.at.rest + length bytes ≤ length xs = omega (arith, inside, fits.long, is.long) in
-      let long = length-pasted xs t.at.rest bytes within in
-      range_same (pasted xs t.at.rest bytes) xs a b (omega (arith, le, within, long)) (sym long)
-      (λ i from to. pasted-below xs t.at.rest bytes within i 0 (omega (arith, to, le)))
-
-  -- so do all blocks that are put in behind it
+  -- blocks that are put in behind a place leave what is before it
   fold_keeps : (ts : List Target) (xs : List ℕ) (a b end : ℕ) → b ≤ end → AreBehind end ts → ((t : Target) → In t ts → Fits t) → IsSlice 65536 xs
       → slice_range (fold (with_block images layout given) xs ts) a b ≡ slice_range xs a b
   fold_keeps [] xs a b end le behind fit is = refl
   fold_keeps (t ∷ ts) xs a b end le behind fit is =
       let f = fit t (inl refl) in
-      fold_keeps ts (with_block images layout given xs t) a b (t.at.rest + size_of t) (omega (arith, le, behind.0)) behind.1 (λ u i. fit u (inr i))
-      (one_slice t (given t) xs f.inside f.bytes is)
-      ∙ one_keeps t (given t) xs a b (omega (arith, le, behind.0)) f.inside f.bytes is
+      let one = one_slice t xs f is in
+      fold_keeps ts (with_block images layout given xs t) a b (t.at.rest + size_of t) (omega (arith, le, behind.0)) behind.1 (λ u i. fit u (inr i)) one
+      ∙ range_same (with_block images layout given xs t) xs a b (omega (arith, le, behind.0, f.inside, one.long)) (is.long ∙ sym one.long)
+      (λ i from to. outside t xs i 0 f is (inl (omega (arith, to, le, behind.0))))
 
-  -- a block's own place has what is given for it
+  -- the place of a block that is put in has what is given for it
+  put_in : (t : Target) (xs b : List ℕ) → Fits t → IsSlice 65536 xs → given t ≡ Some b
+      → slice_range (with_block images layout given xs t) t.at.rest (t.at.rest + size_of t) ≡ b
+  put_in t xs b f is e =
+      let slice : IsSlice (size_of t) b = subst (λ o. IfSome o (IsSlice (size_of t))) e f.bytes in
+      rw (e, ← slice.long) (range_pasted xs t.at.rest b (omega (arith, f.inside, slice.long, is.long)))
+
+  -- so it has with others put in behind it
   pub fold_block : (ts : List Target) (xs : List ℕ) (end : ℕ) (t : Target) (b : List ℕ) → AreBehind end ts → ((t : Target) → In t ts → Fits t)
       → IsSlice 65536 xs → In t ts → given t ≡ Some b → slice_range (fold (with_block images layout given) xs ts) t.at.rest (t.at.rest + size_of t) ≡ b
   fold_block [] xs end t b behind fit is i e = absurd i
   fold_block (u ∷ ts) xs end t b behind fit is (inl same) e =
-      subst (λ v. slice_range (fold (with_block images layout given) xs (u ∷ ts)) v.at.rest (v.at.rest + size_of v) ≡ b) same (
+      subst (λ v. given v ≡ Some b → slice_range (fold (with_block images layout given) xs (u ∷ ts)) v.at.rest (v.at.rest + size_of v) ≡ b) same (λ here.
       let f = fit u (inl refl) in
-      let here : given u ≡ Some b = ap given same ∙ e in
-      let slice : IsSlice (size_of u) b = subst (λ o. IfSome o (IsSlice (size_of u))) here f.bytes in
-      let pasted_in : with_block images layout given xs u ≡ pasted xs u.at.rest b = ap (λ o. option_map_or (pasted xs u.at.rest) o xs) here in
       fold_keeps ts (with_block images layout given xs u) u.at.rest (u.at.rest + size_of u) (u.at.rest + size_of u) (omega arith) behind.1
-      (λ v j. fit v (inr j)) (one_slice u (given u) xs f.inside f.bytes is)
-      ∙ ap (λ ys. slice_range ys u.at.rest (u.at.rest + size_of u)) pasted_in
-      ∙ ap (λ n. slice_range (pasted xs u.at.rest b) u.at.rest (u.at.rest + n)) (sym slice.long)
-      ∙ range_pasted xs u.at.rest b (omega (arith, f.inside, slice.long, is.long)))
+      (λ v j. fit v (inr j)) (one_slice u xs f is) ∙ put_in u xs b f is here) e
   fold_block (u ∷ ts) xs end t b behind fit is (inr i) e =
-      let f = fit u (inl refl) in
       fold_block ts (with_block images layout given xs u) (u.at.rest + size_of u) t b behind.1 (λ v j. fit v (inr j))
-      (one_slice u (given u) xs f.inside f.bytes is) i e
+      (one_slice u xs (fit u (inl refl)) is) i e
 
 -- ---- elements
 

@@ -1,7 +1,7 @@
 -- A scan of extents, call by call.
-use Rattle.std.proofs.Common.{◌≡◌, ℕ, List, [], ◌++◌, Option, Some, Result, Ok, Err, refl, ◌∙◌}
-use Rattle.btr_scrub.proofs.Common.{Blocks, Chunk, Extent, Follows, Gathers, IsList, Layout, Map, Meeting, OnlyReads, SameLoans, Scan, Scene, Seen, Super}
-use Rattle.btr_scrub.proofs.Common.{Tells, TreeFault, TreeRoot, UnreadBlock, Volume, Want, exec, extent_met, no_part, reads_more, scene, unread_by}
+use Rattle.std.proofs.Common.{◌≡◌, ℕ, List, [], ◌++◌, Option, Some, Result, Ok, Err, OnOk, refl, ◌∙◌}
+use Rattle.btr_scrub.proofs.Common.{Blocks, Chunk, Extent, Follows, Gathers, IsList, Layout, Lists, Map, Meeting, Met, OnlyReads, SameLoans, Scan, Scene, Seen}
+use Rattle.btr_scrub.proofs.Common.{Super, Tells, TreeFault, TreeRoot, UnreadBlock, Volume, Want, exec, extent_met, no_part, reads_more, scene, unread_by}
 use Rattle.btr_scrub.proofs.Common.{without_leaf}
 use Rattle.btr_prog.specs.Prog.{wants_of}
 use Rattle.btr_prog.proofs.Follow.{follows_as}
@@ -16,21 +16,20 @@ use Rattle.btr_walk.proofs.Lending.{same_then}
 use Rattle.btr_walk.proofs.Staying.{ready_same}
 use Rattle.btr_volume.specs.declared.stop.Stop.{Stop as TheStop}
 use Rattle.btr_volume.specs.declared.stop.Stop.TheVariants as stop
+use Rattle.btr_scrub.specs.Gathering.{StopCause}
 use Rattle.btr_scrub.specs.Scanning.{Between, GivesExtent, NextExtentBy, Scanned, Underway}
 use Rattle.btr_scrub.specs.Units.{items_met}
 use Rattle.btr_scrub.specs.declared.collecting.NextExtent.{NextExtent}
 use Rattle.btr_scrub.specs.declared.collecting.NextExtent.TheVariants.{End, Other, Broken, Found}
 use Rattle.btr_scrub.proofs.Gathering.{lists_none, lists_then, stop_cause_since, tree_cause}
-use Rattle.btr_scrub.proofs.Scanning.{between_ends, between_extent, between_halts, between_none, between_other, between_stops, same_layout, without_same}
-use Rattle.btr_volume.specs.Stops.{stop_halt}
+use Rattle.btr_scrub.proofs.Scanning.{between_ends, between_extent, between_halts, between_other, between_stops, same_layout, without_same}
+use Rattle.btr_volume.specs.Stops.{ended, stop_halt}
 
 -- what an item says is what comes next
 pub next_by : (s : Super) (Is : UnreadBlock → Want → Type 0) (B : Map) (seen : List Want) (old new : Blocks) (scan scan' : Scan) (next : NextExtent)
     → GivesExtent s B seen old new scan scan' next → NextExtentBy s Is B seen old new scan scan' (Ok next)
 next_by s Is B seen old new scan scan' End c = absurd c.says
-next_by s Is B seen old new scan scan' Other c = c
-next_by s Is B seen old new scan scan' (Broken leaf) c = c
-next_by s Is B seen old new scan scan' (Found extent leaf) c = c
+next_by s Is B seen old new scan scan' next c = c
 
 -- nothing was met yet
 pub underway_first : (s : Super) (sums : Option TreeRoot) (chunk : Chunk) (x : Scene) (scan : Scan) → IsScanReady x.rack x.vol.store scan
@@ -43,7 +42,7 @@ underway_first s sums chunk x scan ready is on = record {
   done = [];
   lists = lists_none x.list is;
   content = unread_on x.vol.store.layout (λ B. Between s sums chunk B x.vol.store x.vol.store scan scan 0 [])
-      (λ B. between_none s sums chunk B x.vol.store scan (on B));
+      (λ B. record { before = []; is = refl; steps = refl; on = on B });
 }
 
 module _ {s : Super} {sums : Option TreeRoot} {chunk : Chunk} {x y : Scene} {scan at : Scan} {end : ℕ} (u : Underway s sums chunk x y scan at end)
@@ -72,38 +71,35 @@ module _ {s : Super} {sums : Option TreeRoot} {chunk : Chunk} {x y : Scene} {sca
   weaker : (w : UnreadBlock) (want : Want) → Is w want → unread_by layout x.rack rack w want
   weaker w want h = since layout y.vol.store.layout same u.reads w want h
 
-  -- the items ended
-  pub scanned_ends : Tells y.vol.store.layout y.rack rack (Next (Ok End)) → Scanned s sums chunk x (scene rack vol y.list) scan at' (Ok end)
-  scanned_ends t = record {
+  -- all that is met, by what the last call told
+  scanned : (next : Result NextExtent TreeFault) (done : List Met) (r : Result ℕ TheStop) → OnOk r (Lists x.list y.list done)
+      → ((B : Map) (b : Between s sums chunk B x.vol.store y.vol.store scan at end u.done)
+      → NextExtentBy s Is B (wants_of b.before) y.vol.store vol.store at at' next
+      → Follows (unread_by layout x.rack rack) no_part [] (exec B (items_met s sums chunk 0 (left_of B x.vol.store scan))) done (ended r))
+      → StopCause layout x.rack rack r → Tells y.vol.store.layout y.rack rack (Next next) → Scanned s sums chunk x (scene rack vol y.list) scan at' r
+  scanned next done r lists follows cause t = record {
     reads = reads_more u.reads reads;
     sup = sup ∙ u.sup;
     others = same_then u.others others;
     ready = ready;
-    done = u.done;
-    lists = u.lists;
-    content = joined Was (Next (Ok End)) (λ B. Follows (unread_by layout x.rack rack) no_part []
-        (exec B (items_met s sums chunk 0 (left_of B x.vol.store scan))) u.done (Ok end)) same
-        (λ B b n. between_ends b (unread_by layout x.rack rack) (n (wants_of b.before) b.on)) u.content t;
-    cause = tt;
+    done = done;
+    lists = lists;
+    content = joined Was (Next next) (λ B. Follows (unread_by layout x.rack rack) no_part []
+        (exec B (items_met s sums chunk 0 (left_of B x.vol.store scan))) done (ended r)) same (λ B b n. follows B b (n (wants_of b.before) b.on)) u.content t;
+    cause = cause;
   }
+
+  -- the items ended
+  pub scanned_ends : Tells y.vol.store.layout y.rack rack (Next (Ok End)) → Scanned s sums chunk x (scene rack vol y.list) scan at' (Ok end)
+  scanned_ends t = scanned (Ok End) u.done (Ok end) u.lists (λ B b n. between_ends b (unread_by layout x.rack rack) n) tt t
 
   -- or came to a fault
   pub scanned_fault : (f : TreeFault) → HasCause {A = NextExtent} y.vol.store.layout y.rack rack (Err f)
       → Tells y.vol.store.layout y.rack rack (Next (Err f)) → Scanned s sums chunk x (scene rack vol y.list) scan at' (Err (stop.Tree f))
-  scanned_fault f cause t = record {
-    reads = reads_more u.reads reads;
-    sup = sup ∙ u.sup;
-    others = same_then u.others others;
-    ready = ready;
-    done = u.done;
-    lists = tt;
-    content = joined Was (Next (Err f)) (λ B. Follows (unread_by layout x.rack rack) no_part []
-        (exec B (items_met s sums chunk 0 (left_of B x.vol.store scan))) u.done (Err (halt_of f))) same
-        (λ B b n. between_halts b (unread_by layout x.rack rack) f
-        (follows_as Is (unread_by layout x.rack rack) weaker no_part (wants_of b.before) (exec B (left_of B y.vol.store at)) [] (Err (halt_of f))
-        (n (wants_of b.before) b.on))) u.content t;
-    cause = stop_cause_since {C = ℕ} rack layout y.vol.store.layout (Err (stop.Tree f)) same u.reads (tree_cause y.vol.store.layout y.rack rack f cause);
-  }
+  scanned_fault f cause t = scanned (Err f) u.done (Err (stop.Tree f)) tt
+      (λ B b n. between_halts b (unread_by layout x.rack rack) f
+      (follows_as Is (unread_by layout x.rack rack) weaker no_part (wants_of b.before) (exec B (left_of B y.vol.store at)) [] (Err (halt_of f)) n))
+      (stop_cause_since {C = ℕ} rack layout y.vol.store.layout (Err (stop.Tree f)) same u.reads (tree_cause y.vol.store.layout y.rack rack f cause)) t
 
   module _ (lo : at'.lo ≡ at.lo) (hi : at'.hi ≡ at.hi) where
     -- an item that is no extent
@@ -123,19 +119,8 @@ module _ {s : Super} {sums : Option TreeRoot} {chunk : Chunk} {x y : Scene} {sca
     -- one that breaks its form
     pub scanned_broken : (leaf : ℕ) → Tells y.vol.store.layout y.rack rack (Next (Ok (Broken leaf)))
         → Scanned s sums chunk x (scene rack vol y.list) scan at' (Err (stop.Tree (tree.Malformed leaf)))
-    scanned_broken leaf t = record {
-      reads = reads_more u.reads reads;
-      sup = sup ∙ u.sup;
-      others = same_then u.others others;
-      ready = ready;
-      done = u.done ++ [];
-      lists = tt;
-      content = joined Was (Next (Ok (Broken leaf))) (λ B. Follows (unread_by layout x.rack rack) no_part []
-          (exec B (items_met s sums chunk 0 (left_of B x.vol.store scan))) (u.done ++ []) (Err (halt_of (tree.Malformed leaf)))) same
-          (λ B b n. let c = n (wants_of b.before) b.on in
-          between_stops b c.gives c.says.0 c.says.1 c.says.2 (unread_by layout x.rack rack) (halt_of (tree.Malformed leaf)) [] (refl, refl)) u.content t;
-      cause = tt;
-    }
+    scanned_broken leaf t = scanned (Ok (Broken leaf)) (u.done ++ []) (Err (stop.Tree (tree.Malformed leaf))) tt
+        (λ B b c. between_stops b c.gives c.says.0 c.says.1 c.says.2 (unread_by layout x.rack rack) (halt_of (tree.Malformed leaf)) [] (refl, refl)) tt t
 
     module _ (extent : Extent) (leaf : ℕ) (t : Tells y.vol.store.layout y.rack rack (Next (Ok (Found extent leaf)))) where
       -- what is met of the extent

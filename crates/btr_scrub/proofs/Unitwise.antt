@@ -2,9 +2,9 @@
 use Rattle.std.proofs.Common.{◌≡◌, ℕ, zero, suc, ◌+◌, ◌-◌, ◌*◌, ◌/◌, ◌%◌, ◌^◌, ◌<◌, ◌≤◌, Bool, true, false, not, cond, ◌&&◌, eqb, leb, ltb, is_some, List, []}
 use Rattle.std.proofs.Common.{◌∷◌, ◌++◌, map, drop, slice_get, Option, Some, None, Result, Ok, Err, refl, sym, ap, ◌∙◌, subst, inl, inr, arith, append-nil}
 use Rattle.btr_scrub.proofs.Common.{AreApart, Chunk, Crosses, Emit, Extent, IsTable, Layout, Map, Meeting, Met, Plain, Return, Sector, Sum, Super, TreeItem}
-use Rattle.btr_scrub.proofs.Common.{TreeRoot, Want, addr_of, and_parts, bind, blocks_of, crosses, eqb-true, exec, extent_met, facts, false≢true, filter}
-use Rattle.btr_scrub.proofs.Common.{in_chunk, in_chunks, key, kind_in, leb-true, len_of, ltb-false, or_parts, same_Some, sector, sector_met, sectors}
-use Rattle.btr_scrub.proofs.Common.{steps_of, sum_at, units_in, wants_among}
+use Rattle.btr_scrub.proofs.Common.{TreeRoot, Want, addr_of, and_parts, bind, blocks_of, crosses, eqb-true, exec, extent_met, facts, filter, in_chunk}
+use Rattle.btr_scrub.proofs.Common.{in_chunks, key, kind_in, leb-true, len_of, ltb-false, or_parts, same_Some, sector, sector_met, sectors, steps_of, sum_at}
+use Rattle.btr_scrub.proofs.Common.{units_in, wants_among}
 use Rattle.std.proofs.lemmas.Bool.{or_cases, not-false}
 use Rattle.std.proofs.lemmas.List.{drop-drop}
 use Rattle.btr_base.specs.Key.{key_le, key_number}
@@ -22,8 +22,7 @@ use Rattle.btr_walk.specs.declared.block_pointer.BlockPointer.{BlockPointer}
 use Rattle.btr_chunk.proofs.Rule.{Facts}
 use Rattle.btr_read.specs.declared.want.Want.TheVariants.{Tree}
 use Rattle.btr_scrub.specs.Order.{AreBetween}
-use Rattle.btr_scrub.specs.Units.{extent_of, if_stated, with_extents}
-use Rattle.btr_scrub.specs.Units.{is_crossing, is_extent, is_malformed, item_met, stated_extent}
+use Rattle.btr_scrub.specs.Units.{extent_of, if_stated, with_extents, is_crossing, is_extent, is_malformed, item_met, stated_extent}
 use Rattle.btr_items.specs.ExtentItem.{extent_item_of}
 use Rattle.btr_items.specs.Item.{body_fits, form_of, item_fits}
 use Rattle.btr_items.specs.Key.{key_fits}
@@ -53,9 +52,8 @@ module _ (lo hi : Key) where
 
   -- so it is with a leaf's
   yields_leaf : (pointer : BlockPointer) (rest : RangeProg) (o : Option Node) → Yields Within rest → Yields Within (range_leaf lo hi pointer rest o)
-  yields_leaf pointer rest None y = tt
   yields_leaf pointer rest (Some (Leaf items)) y = yields_all pointer.addr items rest y
-  yields_leaf pointer rest (Some (Inner pointers)) y = tt
+  yields_leaf pointer rest o y = tt
 
   -- with those below pointers
   yields_over : (child : BlockPointer → RangeProg → RangeProg)
@@ -74,9 +72,8 @@ module _ (lo hi : Key) where
   yields_inner : (child : BlockPointer → RangeProg → RangeProg)
       → ((pointer : BlockPointer) (rest : RangeProg) → Yields Within rest → Yields Within (child pointer rest))
       → (pointer : BlockPointer) (rest : RangeProg) (o : Option Node) → Yields Within rest → Yields Within (range_inner lo hi child pointer rest o)
-  yields_inner child h pointer rest None y = tt
-  yields_inner child h pointer rest (Some (Leaf items)) y = tt
   yields_inner child h pointer rest (Some (Inner pointers)) y = yields_over child h pointers pointer.up rest y
+  yields_inner child h pointer rest o y = tt
 
   -- and with those below any block
   yields_at : (n : ℕ) (pointer : BlockPointer) (rest : RangeProg) → Yields Within rest → Yields Within (range_at lo hi n pointer rest)
@@ -121,10 +118,6 @@ module _ (layout : Layout) where
   between_apart a b (x ∷ xs) h = (h.0, h.1, between_apart (addr_of x + len_of layout.setting x) b xs h.2)
 
 -- ---- one chunk
-
-left_true : (a b : Bool) → a ≡ true → (a && b) ≡ false → b ≡ false
-left_true true b e f = f
-left_true false b e f = absurd (false≢true e)
 
 module _ (s : Super) (layout : Layout) (table : IsTable layout.chunks) (node : s.nodesize ≡ layout.setting.nodesize) (some : 0 < s.nodesize) (B : Map)
     (sums : Option TreeRoot) (number : ℕ) (chunk : Chunk) (there : slice_get layout.chunks number ≡ Some chunk) where
@@ -279,10 +272,8 @@ module _ (s : Super) (layout : Layout) (table : IsTable layout.chunks) (node : s
   key_of kind key e = ap (λ k. record { objectid = key.objectid; kind = k; offset = key.offset }) e
 
   -- an item that isn't before a chunk's first key has an objectid that isn't before the chunk
-  in_order : (objectid kind offset : ℕ) → key_le (key chunk.start 0 0) (record { objectid = objectid; kind = kind; offset = offset }) ≡ true → kind < 256
-      → offset < 2 ^ 64 → chunk.start ≤ objectid
-  in_order objectid kind offset e small few = let le = leb-true (key_number (key chunk.start 0 0))
-      (key_number (record { objectid = objectid; kind = kind; offset = offset })) e in omega (arith, le, small, few)
+  in_order : (k : Key) → key_le (key chunk.start 0 0) k ≡ true → k.kind < 256 → k.offset < 2 ^ 64 → chunk.start ≤ k.objectid
+  in_order k e small few = let le = leb-true (key_number (key chunk.start 0 0)) (key_number k) e in omega (arith, le, small, few)
 
   -- whatever an extent's item states
   extent_is : (item : TreeItem) (extent : Extent) (end : ℕ) → key_le (key chunk.start 0 0) item.key ≡ true → is_extent item.key ≡ true
@@ -310,12 +301,17 @@ module _ (s : Super) (layout : Layout) (table : IsTable layout.chunks) (node : s
           aligned = aligned;
           from = from;
           to = ends;
-          node_long = λ l. eqb-true extent.len s.nodesize (not-false (eqb extent.len s.nodesize)
-              (left_true (is_some extent.level) (not (eqb extent.len s.nodesize)) l parts.1));
-          uncrossed = λ l. left_true (is_some extent.level) (crosses chunk extent.addr extent.len) l crossings.1;
+          node_long = λ l. eqb-true extent.len s.nodesize (not-false (eqb extent.len s.nodesize) (rw l at parts.1));
+          uncrossed = λ l. rw l at crossings.1;
         },
         ltb-false extent.addr end parts.0,
       )
+
+      -- so it is where it lies at the item's address
+      sound_by : item.key.objectid ≡ extent.addr → item.key.objectid % 4096 ≡ 0 → item.key.kind < 256 → item.key.offset < 2 ^ 64
+          → IsSound extent × (end ≤ extent.addr)
+      sound_by addr aligned small few =
+          let from = in_order item.key lo small few in sound_at (ap (λ n. n % 4096) (sym addr) ∙ aligned) (omega (arith, from, addr))
 
       -- an extent that an item states keeps the rules, where the item's key does
       by_read : (r : Result ExtentItem ItemFault) → if_stated s.nodesize item.key r ≡ Some extent → key_fits item.key ≡ true → IsSound extent
@@ -329,25 +325,17 @@ module _ (s : Super) (layout : Layout) (table : IsTable layout.chunks) (node : s
                 let as_key = key_of 168 item.key k in
                 let stated : record { addr = item.key.objectid; len = item.key.offset; generation = x.generation; level = x.level } ≡ extent = ap
                 (λ (q : Key). stated_extent s.nodesize q x) (sym as_key) ∙ same in
-                let addr : item.key.objectid ≡ extent.addr = ap (λ (q : Extent). q.addr) stated in
-                let len : item.key.offset ≡ extent.len = ap (λ (q : Extent). q.len) stated in
                 let both = and_parts (eqb (item.key.objectid % 4096) 0) (eqb (item.key.offset % 4096) 0) (ap key_fits (sym as_key) ∙ fit) in
-                let aligned = eqb-true (item.key.objectid % 4096) 0 both.0 in
-                let from = in_order item.key.objectid 168 item.key.offset (ap (key_le (key chunk.start 0 0)) (sym as_key) ∙ lo) (omega arith)
-                (omega (arith, ends, len, f.in_range)) in
-                sound_at (ap (λ n. n % 4096) (sym addr) ∙ aligned) (omega (arith, from, addr))
+                sound_by (ap (λ (q : Extent). q.addr) stated) (eqb-true (item.key.objectid % 4096) 0 both.0) (omega (arith, k))
+                (omega (arith, ends, ap (λ (q : Extent). q.len) stated, ap (λ (q : Extent). q.addr) stated, f.in_range))
             | inr tree ↦
                 let k = eqb-true item.key.kind 169 tree in
                 let as_key = key_of 169 item.key k in
                 let stated : record { addr = item.key.objectid; len = s.nodesize; generation = x.generation; level = Some item.key.offset } ≡ extent = ap
                 (λ (q : Key). stated_extent s.nodesize q x) (sym as_key) ∙ same in
-                let addr : item.key.objectid ≡ extent.addr = ap (λ (q : Extent). q.addr) stated in
                 let both = and_parts (eqb (item.key.objectid % 4096) 0) (leb item.key.offset 7) (ap key_fits (sym as_key) ∙ fit) in
-                let aligned = eqb-true (item.key.objectid % 4096) 0 both.0 in
-                let few = leb-true item.key.offset 7 both.1 in
-                let from = in_order item.key.objectid 169 item.key.offset (ap (key_le (key chunk.start 0 0)) (sym as_key) ∙ lo) (omega arith)
-                (omega (arith, few)) in
-                sound_at (ap (λ n. n % 4096) (sym addr) ∙ aligned) (omega (arith, from, addr))
+                sound_by (ap (λ (q : Extent). q.addr) stated) (eqb-true (item.key.objectid % 4096) 0 both.0) (omega (arith, k))
+                (omega (arith, leb-true item.key.offset 7 both.1))
           ]
 
       -- so it is where the item fits its form

@@ -1,31 +1,29 @@
 -- Chunk after chunk, each with its syncs.
-use Rattle.std.proofs.Common.{◌≡◌, ◌⊎◌, get_or, ℕ, zero, suc, ◌+◌, ◌<◌, ◌≤◌, Bool, true, false, cond, ◌&&◌, eqb, ◌/◌, List, [], ◌∷◌, ◌++◌, length, take, drop}
-use Rattle.std.proofs.Common.{slice_get, Option, Some, None, is_none, IfSome, IsSomeAnd, OnOk, Result, Ok, Err, IsErrAnd, refl, sym, ap, ◌∙◌, subst, inl, inr}
-use Rattle.std.proofs.Common.{arith, append-nil, append_assoc, add-one}
-use Rattle.btr_scrub.proofs.Common.{AreApart, Blocks, CanMend, Chunk, Failing, Image, Images, IsOfScrub, IsPastChunk, IsTable, Layout, LiesInChunk}
+use Rattle.std.proofs.Common.{◌≡◌, ℕ, ◌+◌, ◌<◌, ◌≤◌, Bool, true, false, cond, ◌&&◌, eqb, ◌/◌, List, ◌∷◌, ◌++◌, length, take, drop, slice_get, [], Option, Some}
+use Rattle.std.proofs.Common.{None, is_none, IfSome, IsSomeAnd, OnOk, Result, Ok, Err, IsErrAnd, refl, sym, ap, ◌∙◌, subst, inl, inr, arith, append-nil}
+use Rattle.std.proofs.Common.{append_assoc, add-one}
+use Rattle.btr_scrub.proofs.Common.{AreApart, Blocks, CanMend, Chunk, Failing, Image, Images, In, IsOfScrub, IsPastChunk, IsTable, Layout, LiesInChunk}
 use Rattle.btr_scrub.proofs.Common.{LiesInStripe, Memory, MendFault, Scrubs, Seen, Tally, Target, Want, Works, Write, addr_of, all_count_for, all_writes_for}
-use Rattle.btr_scrub.proofs.Common.{alone, cases_lt, chunk_count_for, chunk_writes_for, eqb-true, false_from_ne_true, false≢true, filter}
-use Rattle.btr_scrub.proofs.Common.{get_or_from_slice_get, in_either, in_right, is_in_chunk, is_in_row, mirrors, plain, range_with_len, row_of, rows_count}
-use Rattle.btr_scrub.proofs.Common.{rows_in, rows_writes, same_Some, sites_count, sites_in, sites_writes, slice_get_within, sought, sought_of, stripe_length}
-use Rattle.btr_scrub.proofs.Common.{targets, waiting, writes_if}
+use Rattle.btr_scrub.proofs.Common.{alone, cases_lt, chunk_count_for, chunk_writes_for, eqb-true, false_from_ne_true, false≢true, filter, get_or_from_slice_get}
+use Rattle.btr_scrub.proofs.Common.{in_either, in_right, is_in_chunk, is_in_row, mirrors, plain, range_with_len, row_of, rows_count, rows_in, rows_writes}
+use Rattle.btr_scrub.proofs.Common.{same_Some, serving, sites_count, sites_in, sites_writes, slice_get_within, sought, sought_of, stripe_length, targets}
+use Rattle.btr_scrub.proofs.Common.{waiting, writes_if}
 use Rattle.std.proofs.lemmas.Bool.{cases_order}
 use Rattle.std.proofs.lemmas.List.{take-append-drop}
-use Rattle.btr_chunk.proofs.Bytes.{at-below}
-use Rattle.btr_rack.specs.Rack.{in_slot}
+use Rattle.btr_rack.specs.Rack.{IsRack, in_slot}
 use Rattle.btr_read.proofs.Serving.{serves_as}
-use Rattle.btr_scrub_copies.specs.Syncing.{AreMarked, OnlySyncs, Strands, SyncsMarked, WaitsBehindAll}
+use Rattle.btr_scrub_copies.specs.Syncing.{OnlySyncs, Strands, SyncsMarked, WaitsBehindAll}
 use Rattle.btr_scrub_copies.specs.Turns.{WaitsAt}
 use Rattle.btr_scrub_copies.specs.Writes.{AreAmong}
-use Rattle.btr_scrub_copies.proofs.Doing.{does_reads}
 use Rattle.btr_scrub_copies.proofs.Syncs.{sync_held, sync_slots}
-use Rattle.btr_scrub_copies.proofs.Turning.{among_synced, does_sync, marked_below}
-use Rattle.btr_scrub.specs.BlocksInRows.{In}
+use Rattle.btr_scrub_copies.proofs.Turning.{among_synced, does_plain, does_sync, marked_below}
 use Rattle.btr_scrub.specs.WrittenRanges.{WaitsInOne}
-use Rattle.btr_scrub.proofs.Blockwise.{ok_of, targets_both, with_one_start}
+use Rattle.btr_scrub.proofs.AcrossChunks.{chunk_unmoved}
+use Rattle.btr_scrub.proofs.Blockwise.{have_lengths, ok_of, targets_both, with_one_start}
 use Rattle.btr_scrub.proofs.Firsts.{drop_one}
-use Rattle.btr_scrub.proofs.Positions.{alone_lies, is_sought, bounds_of}
+use Rattle.btr_scrub.proofs.Positions.{alone_lies, any_one, is_sought, bounds_of}
 use Rattle.btr_scrub.proofs.RowAgreeing.{map_same}
-use Rattle.btr_scrub.proofs.Scrubbing.{IsUnmoved, does_next, does_weaker, recast, tell, waits_weaker, done_as, done_cut, done_then, can_mend_then}
+use Rattle.btr_scrub.proofs.Scrubbing.{IsUnmoved, can_mend_then, does_next, done_as, done_cut, done_then, recast, scrubs_none, waits_weaker}
 use Rattle.btr_scrub.proofs.Stripes.{any_of}
 use Rattle.btr_scrub.proofs.Lists.{any_at, passed}
 use Rattle.btr_scrub.proofs.Itemwise.{AreSteps, one_cut, one_more}
@@ -49,26 +47,20 @@ works_passed {layout = layout} {write = write} {f = f} {c = c} {a = a} {b = b} {
 -- what waits where there is one chunk alone
 in_alone : (whole : Layout) (chunk : Chunk) (a b : Seen) → WaitsAt (LiesInStripe (alone whole chunk)) a b → WaitsInOne (alone whole chunk) a b
 in_alone whole chunk a b h = inr (any_at (λ c. WaitsAt (LiesInChunk whole c) a b) (chunk ∷ []) 0 chunk (omega arith) refl
-    (waits_weaker (LiesInStripe (alone whole chunk)) (LiesInChunk whole chunk) a b (alone_lies whole chunk) h))
+    (waits_weaker (LiesInStripe (alone whole chunk)) (LiesInChunk whole chunk) a a b (λ range i. i) (alone_lies whole chunk) h))
 
-module _ (whole : Layout) (chunk : Chunk) (write : Bool) where
+module _ (whole : Layout) (chunk : Chunk) where
   -- the layout with this chunk alone
-  abbrev layout : Layout
-  layout = alone whole chunk
-
-  -- nothing waits behind the syncs of all images that are marked
-  none_waits : (m n : List Bool) (b z : Seen) (x : Unit {0}) → SyncsMarked m n b z (Ok x) → AreMarked m b.unsynced → z.unsynced ≡ []
-  none_waits m n b z x s all = nothing z.unsynced (λ range i.
-      let among = s.synced.0.among range i in
-      let marked = all range among.0 in
-      false≢true (sym (among.1 (marked_below m range.slot marked)) ∙ marked))
+  abbrev single : Layout
+  single = alone whole chunk
 
   -- a chunk was mended, and its images synced
-  pub works_synced : (f : Images → List Write) (c : Images → Tally → Tally) (m m' n : List Bool) (a b z : Seen) (t u : Tally) (x : Unit {0})
-      (r : Result (Unit {0}) MendFault) → write ≡ true → Scrubs layout write f c m m' a b t u (Ok x) → SyncsMarked m' n b z r → Works layout write f c a z t u r
-  works_synced f c m m' n a b z t u x r writing h s = record {
-    does = recast (does_next (Unit {0}) (Unit {0}) (IsOfScrub layout) (λ i. writes_if write (f i)) (λ i. []) [] [] [] (plain a) (plain b) (plain z) x r
-        (λ images e. refl) h.does (does_sync (LiesInStripe layout) m' n b z r s)) (λ images e. append-nil (writes_if write (f images)));
+  pub works_synced : {write : Bool} {f : Images → List Write} {c : Images → Tally → Tally} {m m' n : List Bool} {a b z : Seen} {t u : Tally}
+      {x : Unit {0}} {r : Result (Unit {0}) MendFault} → write ≡ true → Scrubs single write f c m m' a b t u (Ok x) → SyncsMarked m' n b z r
+      → Works single write f c a z t u r
+  works_synced {write} {f} {c} {m' = m'} {n} {a} {b} {z} {t} {u} {x} {r} writing h s = record {
+    does = recast (does_next (Unit {0}) (Unit {0}) (IsOfScrub single) (λ i. writes_if write (f i)) (λ i. []) [] [] [] (plain a) (plain b) (plain z) x r
+        (λ images e. refl) h.does (does_sync (LiesInStripe single) m' n b z r s)) (λ images e. append-nil (writes_if write (f images)));
     counts = counted r;
     synced = waits r s;
     waits = λ none. in_alone whole chunk a z (λ range i. h.waits range (among_synced m' n b z r s range i));
@@ -83,7 +75,10 @@ module _ (whole : Layout) (chunk : Chunk) (write : Bool) where
 
       -- where nothing waited before and no sync failed, nothing waits
       waits : (r : Result (Unit {0}) MendFault) → SyncsMarked m' n b z r → OnOk r (a.unsynced ≡ [] → z.unsynced ≡ [])
-      waits (Ok y) k = λ none. none_waits m' n b z y k (h.marked (λ range i. absurd (subst (In range) none i)))
+      waits (Ok y) k = λ none. nothing z.unsynced (λ range i.
+          let among = k.synced.0.among range i in
+          let marked = h.marked (λ range i. absurd (subst (In range) none i)) range among.0 in
+          false≢true (sym (among.1 (marked_below m' range.slot marked)) ∙ marked))
       waits (Err e) k = tt
 
       -- the mending let nothing wait for good
@@ -97,9 +92,9 @@ module _ (whole : Layout) (chunk : Chunk) (write : Bool) where
       strands (Err Memory) k = absurd k
 
   -- a chunk was only read
-  pub works_read : (f : Images → List Write) (c : Images → Tally → Tally) (m m' : List Bool) (a b : Seen) (t u : Tally) (x : Unit {0}) → write ≡ false
-      → Scrubs {A = Unit {0}} layout write f c m m' a b t u (Ok x) → Works {A = Unit {0}} layout write f c a b t u (Ok x)
-  works_read f c m m' a b t u x reading h = record {
+  pub works_read : {write : Bool} {f : Images → List Write} {c : Images → Tally → Tally} {m m' : List Bool} {a b : Seen} {t u : Tally} {x : Unit {0}}
+      → write ≡ false → Scrubs single write f c m m' a b t u (Ok x) → Works single write f c a b t u (Ok x)
+  works_read {a = a} {b = b} reading h = record {
     does = h.does;
     counts = h.counts;
     synced = λ none. ap (λ (s : Seen). s.unsynced) (h.unwritten reading).same ∙ none;
@@ -109,9 +104,9 @@ module _ (whole : Layout) (chunk : Chunk) (write : Bool) where
   }
 
   -- a chunk was mended up to a halt
-  pub works_halted : (f : Images → List Write) (c : Images → Tally → Tally) (m m' : List Bool) (a b : Seen) (t u : Tally) (e : MendFault)
-      → Scrubs {A = Unit {0}} layout write f c m m' a b t u (Err e) → Works {A = Unit {0}} layout write f c a b t u (Err e)
-  works_halted f c m m' a b t u e h = record {
+  pub works_halted : {write : Bool} {f : Images → List Write} {c : Images → Tally → Tally} {m m' : List Bool} {a b : Seen} {t u : Tally} {e : MendFault}
+      → Scrubs {A = Unit {0}} single write f c m m' a b t u (Err e) → Works {A = Unit {0}} single write f c a b t u (Err e)
+  works_halted {a = a} {b = b} h = record {
     does = h.does;
     counts = tt;
     synced = tt;
@@ -124,23 +119,16 @@ module _ (whole : Layout) (chunk : Chunk) (write : Bool) where
 
 -- what waits behind a call waits behind it and those before, behind which no more waited
 pub waits_before : (layout : Layout) (a b z : Seen) → AreAmong (waiting b) (waiting a) → WaitsInOne layout b z → WaitsInOne layout a z
-waits_before layout a b z among (inl w) = inl (λ range i. elim (w range i) as (λ _. In range (waiting a) ⊎ ⊥) [
-  | inl j ↦ inl (among range j)
-  | inr f ↦ absurd f
-])
+waits_before layout a b z among (inl w) = inl (waits_weaker (λ range. ⊥) (λ range. ⊥) a b z among (λ range f. f) w)
 waits_before layout a b z among (inr w) = inr (any_of (λ chunk. WaitsAt (LiesInChunk layout chunk) b z) (λ chunk. WaitsAt (LiesInChunk layout chunk) a z)
-    layout.chunks (λ chunk h range i. elim (h range i) as (λ _. In range (waiting a) ⊎ LiesInChunk layout chunk range) [
-      | inl j ↦ inl (among range j)
-      | inr p ↦ inr p
-    ]) w)
+    layout.chunks (λ chunk. waits_weaker (LiesInChunk layout chunk) (LiesInChunk layout chunk) a b z among (λ range p. p)) w)
 
 module _ (layout : Layout) (write : Bool) where
   -- a chunk of the table was mended
-  pub works_alone : {A : Type 0} (k : ℕ) (chunk : Chunk) → slice_get layout.chunks k ≡ Some chunk
-      → (f : Images → List Write) (c : Images → Tally → Tally) (a b : Seen)
-      (t u : Tally) (r : Result A MendFault) → Works (alone layout chunk) write f c a b t u r → Works layout write f c a b t u r
-  works_alone k chunk there f c a b t u r h = record {
-    does = does_weaker (IsOfScrub (alone layout chunk)) (IsOfScrub layout) (λ i. writes_if write (f i)) [] [] (plain a) (plain b) r
+  pub works_alone : {A : Type 0} (k : ℕ) {chunk : Chunk} {f : Images → List Write} {c : Images → Tally → Tally} {a b : Seen} {t u : Tally}
+      {r : Result A MendFault} → slice_get layout.chunks k ≡ Some chunk → Works (alone layout chunk) write f c a b t u r → Works layout write f c a b t u r
+  works_alone k {chunk} {f} {a} {b} {r = r} there h = record {
+    does = does_plain (IsOfScrub (alone layout chunk)) (IsOfScrub layout) (λ i. writes_if write (f i)) [] [] (plain a) (plain b) r
         (λ range s. elim s as (λ _. IsOfScrub layout range) [
           | inl sync ↦ inl sync
           | inr lies ↦ inr (any_at (λ c. LiesInChunk layout c range) layout.chunks k chunk (slice_get_within layout.chunks k chunk there) there
@@ -157,12 +145,7 @@ module _ (layout : Layout) (write : Bool) where
       wider : WaitsInOne (alone layout chunk) a b → WaitsInOne layout a b
       wider (inl w) = inl w
       wider (inr w) = inr (any_at (λ c. WaitsAt (LiesInChunk layout c) a b) layout.chunks k chunk (slice_get_within layout.chunks k chunk there) there
-          (at w.0 w.1 w.2 w.3 w.4))
-        where
-          -- the one chunk is this one
-          at : (i : ℕ) (c : Chunk) → i < 1 → get_or (chunk ∷ []) i c ≡ c → WaitsAt (LiesInChunk layout c) a b → WaitsAt (LiesInChunk layout chunk) a b
-          at zero c lt same h = subst (λ d. WaitsAt (LiesInChunk layout d) a b) (sym same) h
-          at (suc i) c lt same h = absurd (omega (arith, lt))
+          (any_one (λ c. WaitsAt (LiesInChunk layout c) a b) chunk w))
 
   -- said otherwise
   pub works_as : (f g : Images → List Write) (c d : Images → Tally → Tally) (a b : Seen) (t u : Tally) (r : Result (Unit {0}) MendFault)
@@ -209,19 +192,9 @@ module _ (layout : Layout) (write : Bool) where
 
   -- nothing was done
   pub works_none : (a : Seen) (t : Tally) → Works {A = Unit {0}} layout write (λ i. []) (λ i y. y) a a t t (Ok tt)
-  works_none a t = record {
-    does = recast (does_reads (IsOfScrub layout) [] (plain a) (plain a) tt (record { same = refl; later = omega arith; same_shut = refl })
-        (record { faults = refl; fresh = refl; missed = refl; last = refl; opening = refl; shut = refl })) (λ images e. none write);
-    counts = tell a.held (λ images. t ≡ t) (λ images e. refl);
-    synced = λ none. none;
-    waits = λ none. inl (λ range i. inl i);
-    stranded = refl;
-    unwritten = λ w. record { same = refl; later = omega arith; same_shut = refl };
-  }
-    where
-      none : (b : Bool) → [] ≡ writes_if b []
-      none true = refl
-      none false = refl
+  works_none a t =
+      let h = scrubs_none layout write [] a t (tt {0}) in
+      record { does = h.does; counts = h.counts; synced = λ none. none; waits = λ none. inl (λ range i. inl i); stranded = refl; unwritten = h.unwritten }
 
 -- how they go one behind another
 pub works_steps : (layout : Layout) (write : Bool) → AreSteps layout write {M = Unit {0}} (λ f c m n a b t u r. Works {A = Unit {0}} layout write f c a b t u r)
@@ -292,81 +265,93 @@ module _ (kept : Failing) (layout : Layout) (table : IsTable layout.chunks) (wan
     done = works_none layout write a tally;
   }
 
-  module _ (number : ℕ) (chunk : Chunk) (there : slice_get layout.chunks number ≡ Some chunk) where
-    -- what is left begins in the next chunk or behind it
-    pub begins_there : (left : List Want) (end : ℕ) → ((j : ℕ) (c : Chunk) → j < number → slice_get layout.chunks j ≡ Some c → c.start
-        + c.length ≤ end) → AreApart layout end left → AreApart layout chunk.start left
-    begins_there [] end passed apart = tt
-    begins_there (want ∷ rest) end passed apart =
-        let t = ok_of (sought layout want) apart.1 in
-        let is = is_sought layout want t.0 t.1 in
-        let addr : addr_of t.0.want ≡ addr_of want = ap addr_of (sought_of layout want t.0 t.1).want_is in
-        let b = bounds_of t.0.chunk (addr_of t.0.want) is.held in
-        let from = b.0 in
-        let to = b.1 in
-        let begin : chunk.start ≤ addr_of want = elim (cases_order is.number number) [
-          | inl same ↦ let mine = same_Some t.0.chunk chunk (sym is.there ∙ ap (slice_get layout.chunks) same ∙ there) in
-              omega (arith, addr, from, ap (λ (c : Chunk). c.start) mine)
-          | inr (inl before) ↦ absurd (omega (arith, passed is.number t.0.chunk before is.there, to, addr, apart.0))
-          | inr (inr after) ↦ omega (arith, addr, from, (table.apart number is.number chunk t.0.chunk after there is.there).0)
-        ] in
-        (begin, apart.1, apart.2)
+-- the chunk that comes next, where those before it are past
+module _ {kept : Failing} {store : Blocks} {write : Bool} {marks : List Bool} {wants left : List Want} {number : ℕ} {a b : Seen} {tally tally' : Tally}
+    (ready : CanMend write a store marks) (rack : IsRack a) (h : ChunksPast kept store.layout wants write left number a b tally tally') {chunk : Chunk}
+    (there : slice_get store.layout.chunks number ≡ Some chunk) where
+  -- the layout of the table
+  abbrev layout : Layout
+  layout = store.layout
 
-    module _ (write : Bool) (left left' : List Want) (a b z : Seen) (tally tally' tally'' : Tally)
-        (h : ChunksPast kept layout wants write left number a b tally tally')
-        (unmoved : IsUnmoved layout write (all_writes_for kept layout (take number layout.chunks) wants) (chunk_writes_for kept layout chunk wants)
-        (chunk_count_for kept layout write chunk wants) a.held) where
-      -- what was done in it for some blocks
-      abbrev ForChunk : List Want → Result (Unit {0}) MendFault → Type 0
-      ForChunk ws r = Works layout write (chunk_writes_for kept layout chunk ws) (chunk_count_for kept layout write chunk ws) b z tally' tally'' r
+  -- what is left begins in the next chunk or behind it
+  pub begins_there : AreApart layout chunk.start left
+  begins_there = by left h.apart
+    where
+      by : (ws : List Want) → AreApart layout h.end ws → AreApart layout chunk.start ws
+      by [] apart = tt
+      by (want ∷ rest) apart =
+          let t = ok_of (sought layout want) apart.1 in
+          let is = is_sought layout want t.0 t.1 in
+          let addr : addr_of t.0.want ≡ addr_of want = ap addr_of (sought_of layout want t.0 t.1).want_is in
+          let b = bounds_of t.0.chunk (addr_of t.0.want) is.held in
+          let from = b.0 in
+          let to = b.1 in
+          let begin : chunk.start ≤ addr_of want = elim (cases_order is.number number) [
+            | inl same ↦ let mine = same_Some t.0.chunk chunk (sym is.there ∙ ap (slice_get layout.chunks) same ∙ there) in
+                omega (arith, addr, from, ap (λ (c : Chunk). c.start) mine)
+            | inr (inl before) ↦ absurd (omega (arith, h.passed is.number t.0.chunk before is.there, to, addr, apart.0))
+            | inr (inr after) ↦ omega (arith, addr, from, (ready.table.apart number is.number chunk t.0.chunk after there is.there).0)
+          ] in
+          (begin, apart.1, apart.2)
 
-      -- what was done for the blocks that are left was done for all
-      for_all : (r : Result (Unit {0}) MendFault) → ForChunk left r → ForChunk wants r
-      for_all r =
-          let same = left_for write chunk h.past left h.split (λ t i. h.outside t number chunk i (omega arith) there) in
-          works_as layout write (chunk_writes_for kept layout chunk left) (chunk_writes_for kept layout chunk wants)
-          (chunk_count_for kept layout write chunk left) (chunk_count_for kept layout write chunk wants) b z tally' tally'' r
-          (λ images e. ((same images).0, (same images).1 tally'))
+  -- what was mended before leaves what is written and counted in this chunk
+  unmoved : IsUnmoved layout write (all_writes_for kept layout (take number layout.chunks) wants) (chunk_writes_for kept layout chunk wants)
+      (chunk_count_for kept layout write chunk wants) a.held
+  unmoved = chunk_unmoved kept layout write wants a.held number chunk ready.table (serving a store ready.serves).own_slots ready.given there
+      (have_lengths a store rack ready.serves)
 
-      -- one chunk more
-      pub chunks_more : IsPastChunk layout chunk left left' → ForChunk left (Ok (tt {0}))
-          → ChunksPast kept layout wants write left' (number + 1) a z tally tally''
-      chunks_more p one = record {
-        past = h.past ++ p.past;
-        split = h.split ∙ ap (λ ws. h.past ++ ws) p.split ∙ sym (append_assoc h.past p.past left');
-        outside = λ t k c i le e. elim (in_either t (targets layout h.past) (targets layout p.past) (subst (In t) (targets_both layout h.past p.past) i)) [
-          | inl j ↦ h.outside t k c j (omega (arith, le)) e
-          | inr j ↦ not_later t k c le e (p.inside t j)
-        ];
-        end = chunk.start + chunk.length;
-        passed = λ j c lt e. elim (cases_lt j number) [
-          | inl below ↦ omega (arith, (table.apart j number c chunk below e there).0)
-          | inr above ↦ let same : j ≡ number = omega (arith, lt, above) in
-              omega (arith, ap (λ (c : Chunk). c.start + c.length) (same_Some c chunk (sym e ∙ ap (slice_get layout.chunks) same ∙ there)))
-        ];
-        apart = p.behind;
-        done = subst (λ cs. Works layout write (all_writes_for kept layout cs wants) (all_count_for kept layout write cs wants) a z tally tally'' (Ok (tt {0})))
-            (sym (take_one layout.chunks number chunk there))
-            (one_more (works_steps layout write) (λ i c. chunk_writes_for kept layout c wants i)
-            (λ i y c. chunk_count_for kept layout write c wants i y) (take number layout.chunks) chunk unmoved h.done (for_all (Ok tt) one));
-      }
-        where
-          -- a block of this chunk lies in no later one
-          not_later : (t : Target) (k : ℕ) (c : Chunk) → number + 1 ≤ k → slice_get layout.chunks k ≡ Some c → t.chunk ≡ chunk → is_in_chunk c t ≡ false
-          not_later t k c le e mine = false_from_ne_true (is_in_chunk c t) (λ q.
-              let same = (with_one_start layout table number k chunk c there e (ap (λ (x : Chunk). x.start) (sym mine) ∙ eqb-true t.chunk.start c.start q)).0 in
-              omega (arith, same, le))
+  -- what was done in it for some blocks
+  abbrev ForChunk : Seen → Tally → List Want → Result (Unit {0}) MendFault → Type 0
+  ForChunk z tally'' ws r = Works layout write (chunk_writes_for kept layout chunk ws) (chunk_count_for kept layout write chunk ws) b z tally' tally'' r
 
-      -- a halt in it
-      pub chunks_cut : (e : MendFault) → ForChunk left (Err e)
-          → Works {A = Unit {0}} layout write (all_writes_for kept layout layout.chunks wants) (all_count_for kept layout write layout.chunks wants) a
-          z tally tally'' (Err e)
-      chunks_cut x one =
-          subst (λ cs. Works {A = Unit {0}} layout write (all_writes_for kept layout cs wants) (all_count_for kept layout write cs wants) a z tally tally''
-          (Err x)) (sym (split_at layout.chunks number chunk there))
-          (one_cut (works_steps layout write) (λ i c. chunk_writes_for kept layout c wants i)
-          (λ i y c. chunk_count_for kept layout write c wants i y) (take number layout.chunks) chunk unmoved h.done
-          (drop (number + 1) layout.chunks) x (for_all (Err x) one))
+  -- what was done for the blocks that are left was done for all
+  for_all : {z : Seen} {tally'' : Tally} (r : Result (Unit {0}) MendFault) → ForChunk z tally'' left r → ForChunk z tally'' wants r
+  for_all {z} {tally''} r =
+      let same = left_for kept layout ready.table wants write chunk h.past left h.split (λ t i. h.outside t number chunk i (omega arith) there) in
+      works_as layout write (chunk_writes_for kept layout chunk left) (chunk_writes_for kept layout chunk wants)
+      (chunk_count_for kept layout write chunk left) (chunk_count_for kept layout write chunk wants) b z tally' tally'' r
+      (λ images e. ((same images).0, (same images).1 tally'))
+
+  -- one chunk more
+  pub chunks_more : {left' : List Want} {z : Seen} {tally'' : Tally} → IsPastChunk layout chunk left left' → ForChunk z tally'' left (Ok (tt {0}))
+      → ChunksPast kept layout wants write left' (number + 1) a z tally tally''
+  chunks_more {left'} {z} {tally''} p one = record {
+    past = h.past ++ p.past;
+    split = h.split ∙ ap (λ ws. h.past ++ ws) p.split ∙ sym (append_assoc h.past p.past left');
+    outside = λ t k c i le e. elim (in_either t (targets layout h.past) (targets layout p.past) (subst (In t) (targets_both layout h.past p.past) i)) [
+      | inl j ↦ h.outside t k c j (omega (arith, le)) e
+      | inr j ↦ not_later t k c le e (p.inside t j)
+    ];
+    end = chunk.start + chunk.length;
+    passed = λ j c lt e. elim (cases_lt j number) [
+      | inl below ↦ omega (arith, (ready.table.apart j number c chunk below e there).0)
+      | inr above ↦ let same : j ≡ number = omega (arith, lt, above) in
+          omega (arith, ap (λ (c : Chunk). c.start + c.length) (same_Some c chunk (sym e ∙ ap (slice_get layout.chunks) same ∙ there)))
+    ];
+    apart = p.behind;
+    done = subst (λ cs. Works layout write (all_writes_for kept layout cs wants) (all_count_for kept layout write cs wants) a z tally tally'' (Ok (tt {0})))
+        (sym (take_one layout.chunks number chunk there))
+        (one_more (works_steps layout write) (λ i c. chunk_writes_for kept layout c wants i)
+        (λ i y c. chunk_count_for kept layout write c wants i y) (take number layout.chunks) chunk unmoved h.done (for_all (Ok tt) one));
+  }
+    where
+      -- a block of this chunk lies in no later one
+      not_later : (t : Target) (k : ℕ) (c : Chunk) → number + 1 ≤ k → slice_get layout.chunks k ≡ Some c → t.chunk ≡ chunk → is_in_chunk c t ≡ false
+      not_later t k c le e mine = false_from_ne_true (is_in_chunk c t) (λ q.
+          let same = (with_one_start layout ready.table number k chunk c there e (ap (λ (x : Chunk). x.start) (sym mine)
+          ∙ eqb-true t.chunk.start c.start q)).0 in
+          omega (arith, same, le))
+
+  -- a halt in it
+  pub chunks_cut : {z : Seen} {tally'' : Tally} {e : MendFault} → ForChunk z tally'' left (Err e)
+      → Works {A = Unit {0}} layout write (all_writes_for kept layout layout.chunks wants) (all_count_for kept layout write layout.chunks wants) a
+      z tally tally'' (Err e)
+  chunks_cut {z} {tally''} {e} one =
+      subst (λ cs. Works {A = Unit {0}} layout write (all_writes_for kept layout cs wants) (all_count_for kept layout write cs wants) a z tally tally''
+      (Err e)) (sym (split_at layout.chunks number chunk there))
+      (one_cut (works_steps layout write) (λ i c. chunk_writes_for kept layout c wants i)
+      (λ i y c. chunk_count_for kept layout write c wants i y) (take number layout.chunks) chunk unmoved h.done
+      (drop (number + 1) layout.chunks) e (for_all (Err e) one))
 
 -- ---- what can be mended, behind syncs
 
@@ -382,7 +367,3 @@ can_mend_synced write a b store m n can only long =
     let slots = sync_slots a b only in
     can_mend_then write a b store store m n can slots (record { layout = refl; loans = refl })
     (serves_as a b store store slots (sync_held a b only) refl refl can.serves) long
-
--- the chunk of a number below their count
-pub at_number : (layout : Layout) (i : ℕ) → i < length layout.chunks → (chunk : Chunk) × (slice_get layout.chunks i ≡ Some chunk)
-at_number layout i lt = at-below layout.chunks i lt

@@ -1,15 +1,12 @@
 -- The writes of a full stripe lie where it is wrong.
 use Rattle.std.proofs.Common.{◌≡◌, ℕ, ◌+◌, ◌-◌, ◌*◌, ◌<◌, ◌≤◌, true, List, length, Some, IsNone, IsSomeAnd, ◌⊎◌, refl, sym, ap, ◌∙◌, subst, inl, inr, arith}
-use Rattle.btr_scrub.proofs.Common.{Failing, HasPart, Images, IsSoundRow, IsTable, Layout, Part, Row, Target, Write, flat_map, list_any, mending_writes}
-use Rattle.btr_scrub.proofs.Common.{parities, parity_writes, place_at, range_in, range_in_element, range_of, row_writes, same_Some, size_of, wrong_parts}
+use Rattle.btr_scrub.proofs.Common.{Failing, HasPart, Images, In, IsSoundRow, IsTable, Layout, Part, Range, Row, Target, Write, covers, flat_map, list_any}
+use Rattle.btr_scrub.proofs.Common.{mending_writes, parities, parity_writes, range_in, range_in_element, range_of, row_writes, same_Some, size_of, wrong_parts}
 use Rattle.btr_chunk.specs.declared.place.Part.TheVariants as part
-use Rattle.btr_rack.specs.declared.place.Place.{Place as Range}
-use Rattle.btr_scrub.specs.BlocksInRows.{In}
-use Rattle.btr_scrub.specs.Repair.{covers}
 use Rattle.btr_scrub.specs.Columns.{Committed, IsInWrongColumn, IsWrongAt}
 use Rattle.btr_scrub.specs.Staying.{IsInWrong, IsRowOf, RowWritesAreWrong}
 use Rattle.btr_scrub.specs.Survival.{GetsRight, IsParity}
-use Rattle.btr_scrub.proofs.Elements.{has_ranges}
+use Rattle.btr_scrub.proofs.Elements.{has_ranges, start_of}
 use Rattle.btr_scrub.proofs.OwnPlaces.{wrong_own, own_slice, over_byte}
 use Rattle.btr_scrub.proofs.Places.{covered, covering}
 use Rattle.btr_scrub.proofs.Wrong.{differing_parity_is_wrong}
@@ -95,7 +92,7 @@ module _ (images : Images) (layout : Layout) (C : Committed) (fails : Failing) (
       → range_in_element layout row q (column * 4096) 4096 ≡ Some range → covers slot off range ≡ true → IsByte q (column * 4096) (column * 4096 + 4096)
   sector_covers q column range has few e c =
       let b = begins layout row table here q has in
-      let start = (place_at row.chunk q (record { row = row.number; index = 0; rest = 0 })).offset in
+      let start = (start_of row q).offset in
       let is = piece_is layout row table here q 0 (column * 4096) 4096 range has (column_at layout row table here column few) (omega (arith, few)) e in
       let at = covering slot off (range_in b.device.slot (start + column * 4096) 4096) (ap (covers slot off) (sym is) ∙ c) in
       byte_of q (column * 4096) 4096 start (b.whole ∙ ap (λ n. Some (range_in n start 65536)) at.0)
@@ -103,10 +100,9 @@ module _ (images : Images) (layout : Layout) (C : Committed) (fails : Failing) (
 
   -- a byte in a column that isn't right is a wrong one of a parity
   parity_wrong : (q : Part) (x : ℕ) → IsParity q → IsInWrongColumn images layout C row q x → IsWrongAt images layout C row q x
-  parity_wrong (part.Mirror i) x parity w = absurd parity
-  parity_wrong (part.Slice i) x parity w = absurd parity
   parity_wrong part.P x parity w = w
   parity_wrong part.Q x parity w = w
+  parity_wrong q x parity w = absurd parity
 
   -- a byte that a write of a parity changes is a wrong one, where each block gets what is right
   of_parity : (q : Part) → IsParity q → HasPart row.chunk.profile (length row.chunk.stripes) q → ((t : Target) → In t row.blocks → GetsRight images C row t)

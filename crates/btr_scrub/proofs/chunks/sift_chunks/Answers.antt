@@ -1,10 +1,10 @@
-use Rattle.std.proofs.Common.{◌≡◌, ℕ, ◌+◌, ◌≤◌, length, drop, slice_get, Some, Ok, Err, sym, ap, ◌∙◌, subst, arith}
+use Rattle.std.proofs.Common.{◌≡◌, ℕ, ◌+◌, ◌≤◌, length, drop, slice_get, Some, Ok, Err, refl, sym, ap, ◌∙◌, subst, arith}
 use Rattle.std.proofs.lemmas.List.{drop_all}
-use Rattle.btr_scrub.proofs.Common.{CanSift, HasKeptOf, HasPassed, Layout, Meeting, Return, Span, Super, in_chunk, in_chunks, scene}
+use Rattle.btr_scrub.proofs.Common.{CanSift, HasPassed, Layout, Meeting, Return, Span, Super, in_chunk, in_chunks, scene}
 use Rattle.btr_scrub.specs.Sifting.{Sieves}
 use Rattle.btr_scrub.proofs.Chunkwise.{chunk_first, contains_at, span_in}
 use Rattle.btr_scrub.proofs.Gathering.{gathers_value, reaches_ends, reaches_none, reaches_step, same_self, same_then}
-use Rattle.btr_scrub.proofs.Sieved.{sieves_halt, sieves_ok, sieves_passed}
+use Rattle.btr_scrub.proofs.Sieved.{sieves_halt, sieves_ok, sieves_passed, stands_as}
 use Rattle.btr_scrub.proofs.chunks.sift_chunks.Goals as goal
 
 pub loop-i-init : goal.loop-i-init
@@ -27,8 +27,7 @@ sift_chunk-requires-clause-chunk g c = span_in c.args.vol.now.store.layout c.loo
     c.loop-i.invariant.volume.store.layout c.span_at-span.ensures
 
 pub sift_chunk-requires-clause-can : goal.sift_chunk-requires-clause-can
-sift_chunk-requires-clause-can g c =
-    subst (λ (l : Layout). CanSift l c.loop-i.sieve.sifted) (sym c.loop-i.invariant.volume.store.layout) c.loop-i.invariant.can
+sift_chunk-requires-clause-can g c = rw c.loop-i.invariant.volume.store.layout c.loop-i.invariant.can
 
 pub sift_chunk-requires-clause-behind : goal.sift_chunk-requires-clause-behind
 sift_chunk-requires-clause-behind g c =
@@ -52,9 +51,8 @@ returns-in_err-sift_chunk-clause-sieves g c whole stands =
     let here = in_chunk s sums at.chunk extents in
     let rest = λ (n : ℕ). in_chunks s sums extents (drop (i + 1) chunks) in
     let there = subst (λ (l : Layout). slice_get l.chunks i ≡ Some at.chunk) c.loop-i.invariant.volume.store.layout at.at in
-    sieves_passed c.from_residual.ensures.1 (sieves_halt (in_chunks s sums extents chunks) here rest x y
+    sieves_passed c.from_residual.ensures.1 (sieves_halt here rest
     (subst (λ (q : Meeting (Unit {0})). HasPassed (in_chunks s sums extents chunks) q x y) (chunk_first s sums extents chunks i at.chunk there) h.1)
-    z c.sift_chunk.new.vol c.sift_chunk.new.sieve c.in_err-sift_chunk.field-0.0
     (subst (λ (t : Super). Sieves (in_chunk t sums at.chunk extents) y z c.sift_chunk.new.vol c.sift_chunk.new.sieve
     (Err c.in_err-sift_chunk.field-0.0)) c.loop-i.invariant.volume.sup
     (c.in_err-sift_chunk.ensures.sieves at.chunk h.0 at.is (contains_at c.loop-i.vol.store.layout.chunks i at.chunk at.at) h.2)))
@@ -94,7 +92,7 @@ loop-i-preserved g c = record {
         reaches_step (in_chunks s sums extents chunks) here rest x y
             (subst (λ (q : Meeting (Unit {0})). HasPassed (in_chunks s sums extents chunks) q x y) (chunk_first s sums extents chunks i at.chunk there) h.1)
             (scene z c.sift_chunk.new.vol one.went.0) c.in_ok-sift_chunk.field-0 one.went.1,
-        subst (λ (l : Layout). HasKeptOf l z.held one.went.0 c.sift_chunk.new.sieve) (sym c.in_ok-sift_chunk.ensures.volume.store.layout) one.went.2,
+        stands_as c.in_ok-sift_chunk.ensures.volume.store.layout refl one.went.2,
       );
 }
 
@@ -112,7 +110,6 @@ returns-clause-sieves g c whole stands =
     let p = in_chunks s sums extents layout.chunks in
     let few : length layout.chunks ≤ i = omega (arith, c.loop-i-test.false, c.count-i-end.ensures.count, ap length c.chunks.ensures) in
     let none = ap (in_chunks s sums extents) (drop_all i layout.chunks few) in
-    sieves_ok p x rack c.loop-i.vol c.loop-i.sieve h.0 tt
-    (reaches_ends p (Return tt) x y y (Ok tt) (subst (λ (q : Meeting (Unit {0})). HasPassed p q x y) none h.1)
+    sieves_ok {a = tt} (reaches_ends p (Return tt) x y y (Ok tt) (subst (λ (q : Meeting (Unit {0})). HasPassed p q x y) none h.1)
     (gathers_value tt y h.2.is_whole c.loop-i.invariant.ready.serves))
-    (subst (λ (l : Layout). HasKeptOf l rack.held h.0 c.loop-i.sieve) c.loop-i.invariant.volume.store.layout h.2)
+    (stands_as (sym c.loop-i.invariant.volume.store.layout) refl h.2)

@@ -1,6 +1,5 @@
-use Rattle.std.proofs.Common.{◌≡◌, Some, Ok, Err, refl, sym, ap, ◌∙◌, subst, arith}
-use Rattle.btr_scrub.proofs.Common.{Blocks, Gathers, Layout, Scan, Seen, Super, Volume, err_from_is_err_and, extent_met, kind_in, scene, tree_behind}
-use Rattle.btr_scrub.proofs.Common.{without_leaf}
+use Rattle.std.proofs.Common.{Result, ◌≡◌, Some, Ok, Err, refl, sym, ap, ◌∙◌, subst, arith}
+use Rattle.btr_scrub.proofs.Common.{Gathers, Layout, Super, TreeFault, Volume, err_from_is_err_and, extent_met, kind_in, scene, tree_behind, without_leaf}
 use Rattle.std.specs.Prelude.{Contains}
 use Rattle.btr_walk.specs.ScanEnds.{rank_of}
 use Rattle.btr_scrub.specs.Scanning.{ItemRankFalls, NextTold}
@@ -8,13 +7,19 @@ use Rattle.btr_walk.proofs.Staying.{ready_same, room_beside, room_same}
 use Rattle.btr_scrub.proofs.Scanning.{same_layout, without_same}
 use Rattle.btr_scrub.proofs.Underways.{scanned_broken, scanned_ends, scanned_fault, scanned_stops, underway_extent, underway_first, underway_other}
 use Rattle.btr_scrub.specs.declared.collecting.NextExtent.{NextExtent}
+use Rattle.btr_scrub.proofs.collecting.gather_items.Given as given
+use Rattle.btr_scrub.proofs.collecting.gather_items.Goals.{After-next_extent, In-Ok-Found}
 use Rattle.btr_scrub.proofs.collecting.gather_items.Goals as goal
 
--- what came next is told by the superblock that the scan began with, and as its arm says
-next_told : {s : Super} (s' : Super) (a b : Seen) (old new : Blocks) (scan scan' : Scan) {next next' : NextExtent} → s' ≡ s → next ≡ next'
-    → NextTold s' a b old new scan scan' (Ok next) → NextTold s a b old new scan scan' (Ok next')
-next_told {s} s' a b old new scan scan' {next} sup is told =
-    subst (λ v. NextTold s a b old new scan scan' (Ok v)) is (subst (λ s. NextTold s a b old new scan scan' (Ok next)) sup told)
+-- what came next is told, by a superblock
+abbrev Told : (g : given.Over) → After-next_extent g → Super → Result NextExtent TreeFault → Type 0
+Told g c s next = NextTold s (g.R.Rack.seen c.loop-fault.rack) (g.R.Rack.seen c.next_extent.new.rack) c.loop-fault.vol.store c.next_extent.new.store
+    c.loop-fault.scan c.next_extent.new.scan next
+
+-- it is told by the one that the scan began with, and as its arm says
+told : (g : given.Over) (c : After-next_extent g) {next next' : Result NextExtent TreeFault} → next ≡ next' → Told g c c.loop-fault.vol.sup next
+    → Told g c c.args.vol.now.sup next'
+told g c {next} is h = subst (Told g c c.args.vol.now.sup) is (subst (λ s. Told g c s next) c.loop-fault.invariant.sup h)
 
 pub loop-fault-init : goal.loop-fault-init
 loop-fault-init g c = record {
@@ -42,8 +47,7 @@ returns-in-Err-clause-scanned g c chunk span there =
     let inv = c.loop-fault.invariant in
     scanned_fault (inv.underway chunk span there) (record { store = c.next_extent.new.store; sup = c.loop-fault.vol.sup }) refl c.in-Err.ensures.reads
     c.in-Err.ensures.others c.in-Err.ensures.ready c.in-Err.fault c.in-Err.ensures.cause
-    (subst (λ s. NextTold s (g.R.Rack.seen c.loop-fault.rack) (g.R.Rack.seen c.next_extent.new.rack) c.loop-fault.vol.store c.next_extent.new.store
-    c.loop-fault.scan c.next_extent.new.scan (Err c.in-Err.fault)) inv.sup c.in-Err.ensures.content)
+    (told g (goal.at.returns-in-Err-clause-scanned g c).After-next_extent {next = Err c.in-Err.fault} refl c.in-Err.ensures.content)
 
 pub returns-in-Ok-End-clause-ready : goal.returns-in-Ok-End-clause-ready
 returns-in-Ok-End-clause-ready g c = c.in-Ok-End.ensures.ready
@@ -53,8 +57,7 @@ returns-in-Ok-End-clause-scanned g c chunk span there =
     let inv = c.loop-fault.invariant in
     scanned_ends (inv.underway chunk span there) (record { store = c.next_extent.new.store; sup = c.loop-fault.vol.sup }) refl c.in-Ok-End.ensures.reads
     c.in-Ok-End.ensures.others c.in-Ok-End.ensures.ready
-    (next_told c.loop-fault.vol.sup (g.R.Rack.seen c.loop-fault.rack) (g.R.Rack.seen c.next_extent.new.rack)
-    c.loop-fault.vol.store c.next_extent.new.store c.loop-fault.scan c.next_extent.new.scan inv.sup c.in-Ok-End.field-0-is c.in-Ok-End.ensures.content)
+    (told g (goal.at.returns-in-Ok-End-clause-scanned g c).After-next_extent (ap Ok c.in-Ok-End.field-0-is) c.in-Ok-End.ensures.content)
 
 pub loop-fault-smaller-in-Ok-Other : goal.loop-fault-smaller-in-Ok-Other
 loop-fault-smaller-in-Ok-Other g c = subst (λ v. ItemRankFalls (rank_of c.loop-fault.scan) (rank_of c.next_extent.new.scan) (Ok v))
@@ -74,9 +77,7 @@ loop-fault-preserved-in-Ok-Other g c =
       underway =
           λ chunk span there. underway_other (inv.underway chunk span there) (record { store = c.next_extent.new.store; sup = c.loop-fault.vol.sup }) refl
           c.in-Ok-Other.ensures.reads c.in-Ok-Other.ensures.others c.in-Ok-Other.ensures.ready c.in-Ok-Other.ensures.lo c.in-Ok-Other.ensures.hi
-          (next_told c.loop-fault.vol.sup (g.R.Rack.seen c.loop-fault.rack) (g.R.Rack.seen c.next_extent.new.rack)
-          c.loop-fault.vol.store c.next_extent.new.store c.loop-fault.scan c.next_extent.new.scan inv.sup c.in-Ok-Other.field-0-is
-          c.in-Ok-Other.ensures.content);
+          (told g (goal.at.loop-fault-preserved-in-Ok-Other g c).After-next_extent (ap Ok c.in-Ok-Other.field-0-is) c.in-Ok-Other.ensures.content);
     }
 
 pub returns-in-Ok-Broken-clause-ready : goal.returns-in-Ok-Broken-clause-ready
@@ -87,8 +88,7 @@ returns-in-Ok-Broken-clause-scanned g c chunk span there =
     let inv = c.loop-fault.invariant in
     scanned_broken (inv.underway chunk span there) (record { store = c.next_extent.new.store; sup = c.loop-fault.vol.sup }) refl c.in-Ok-Broken.ensures.reads
     c.in-Ok-Broken.ensures.others c.in-Ok-Broken.ensures.ready c.in-Ok-Broken.ensures.lo c.in-Ok-Broken.ensures.hi c.in-Ok-Broken.leaf
-    (next_told c.loop-fault.vol.sup (g.R.Rack.seen c.loop-fault.rack) (g.R.Rack.seen c.next_extent.new.rack)
-    c.loop-fault.vol.store c.next_extent.new.store c.loop-fault.scan c.next_extent.new.scan inv.sup c.in-Ok-Broken.field-0-is c.in-Ok-Broken.ensures.content)
+    (told g (goal.at.returns-in-Ok-Broken-clause-scanned g c).After-next_extent (ap Ok c.in-Ok-Broken.field-0-is) c.in-Ok-Broken.ensures.content)
 
 pub gather_extent-requires-clause-serves : goal.gather_extent-requires-clause-serves
 gather_extent-requires-clause-serves g c = c.in-Ok-Found.ensures.ready.serves
@@ -112,36 +112,35 @@ pub loop-fault-smaller : goal.loop-fault-smaller
 loop-fault-smaller g c = subst (λ v. ItemRankFalls (rank_of c.loop-fault.scan) (rank_of c.next_extent.new.scan) (Ok v)) c.in-Ok-Found.field-0-is
     c.in-Ok-Found.ensures.rank_falls
 
+-- the layout is still the one that the scan began with
+same_table : (g : given.Over) (c : In-Ok-Found g) → c.next_extent.new.store.layout ≡ c.args.vol.now.store.layout
+same_table g c = same_layout c.loop-fault.vol.store c.next_extent.new.store c.loop-fault.scan c.next_extent.new.scan c.in-Ok-Found.ensures.others
+    ∙ c.loop-fault.invariant.layout
+
 pub loop-fault-preserved : goal.loop-fault-preserved
 loop-fault-preserved g c =
     let inv = c.loop-fault.invariant in
     let after : Volume = record { store = c.next_extent.new.store; sup = c.loop-fault.vol.sup } in
-    let sums = tree_behind c.args.sums in
-    let others = c.in-Ok-Found.ensures.others in
-    let ready = c.in-Ok-Found.ensures.ready in
-    let layout : c.next_extent.new.store.layout ≡ c.args.vol.now.store.layout =
-    same_layout c.loop-fault.vol.store c.next_extent.new.store c.loop-fault.scan c.next_extent.new.scan others ∙ inv.layout in
+    let came = c.in-Ok-Found.ensures in
+    let layout = same_table g (goal.at.loop-fault-preserved g c).In-Ok-Found in
     let of = c.requires.chunk in
-    let one = (subst (λ s. Gathers (extent_met s sums of.chunk c.loop-fault.end c.in-Ok-Found.leaf (Some c.in-Ok-Found.extent))
-    (scene (g.R.Rack.seen c.next_extent.new.rack) after c.loop-fault.gathered)
-    (scene (g.R.Rack.seen c.gather_extent.new.rack) c.gather_extent.new.vol c.gather_extent.new.gathered) (Ok c.in_ok-end-in-Ok-Found.end)) inv.sup
-    (c.in_ok-end-in-Ok-Found.ensures of.chunk of.is (subst (λ (l : Layout). Contains l.chunks of.chunk) (sym layout) of.there))) in
+    let one = c.in_ok-end-in-Ok-Found.ensures of.chunk of.is (subst (λ (l : Layout). Contains l.chunks of.chunk) (sym layout) of.there) in
     record {
       ready = ready_same (g.R.Rack.seen c.next_extent.new.rack) (g.R.Rack.seen c.gather_extent.new.rack) c.next_extent.new.store
-          c.gather_extent.new.vol.store c.next_extent.new.scan one.volume.store one.serves ready;
+          c.gather_extent.new.vol.store c.next_extent.new.scan one.volume.store one.serves came.ready;
       room = room_same (without_leaf c.next_extent.new.store c.next_extent.new.scan) (without_leaf c.gather_extent.new.vol.store c.next_extent.new.scan) 5
           (without_same c.next_extent.new.store c.gather_extent.new.vol.store c.next_extent.new.scan one.volume.store)
-          (room_same (without_leaf c.loop-fault.vol.store c.loop-fault.scan) (without_leaf c.next_extent.new.store c.next_extent.new.scan) 5 others inv.room);
+          (room_same (without_leaf c.loop-fault.vol.store c.loop-fault.scan) (without_leaf c.next_extent.new.store c.next_extent.new.scan) 5
+          came.others inv.room);
       sup = one.volume.sup ∙ inv.sup;
       layout = one.volume.store.layout ∙ layout;
       is_list = one.lists.is_list;
       kind = one.lists.kind ∙ inv.kind;
-      underway = λ chunk span there. underway_extent (inv.underway chunk span there) after refl c.in-Ok-Found.ensures.reads others ready
-          c.in-Ok-Found.ensures.lo c.in-Ok-Found.ensures.hi c.in-Ok-Found.extent c.in-Ok-Found.leaf
-          (next_told c.loop-fault.vol.sup (g.R.Rack.seen c.loop-fault.rack) (g.R.Rack.seen c.next_extent.new.rack)
-          c.loop-fault.vol.store c.next_extent.new.store c.loop-fault.scan c.next_extent.new.scan inv.sup c.in-Ok-Found.field-0-is
-          c.in-Ok-Found.ensures.content) c.in_ok-end-in-Ok-Found.end
-          (subst (λ s. Gathers (extent_met s sums chunk c.loop-fault.end c.in-Ok-Found.leaf (Some c.in-Ok-Found.extent))
+      underway = λ chunk span there. underway_extent (inv.underway chunk span there) after refl came.reads came.others came.ready came.lo came.hi
+          c.in-Ok-Found.extent c.in-Ok-Found.leaf
+          (told g (goal.at.loop-fault-preserved g c).After-next_extent (ap Ok c.in-Ok-Found.field-0-is) came.content)
+          c.in_ok-end-in-Ok-Found.end
+          (subst (λ s. Gathers (extent_met s (tree_behind c.args.sums) chunk c.loop-fault.end c.in-Ok-Found.leaf (Some c.in-Ok-Found.extent))
           (scene (g.R.Rack.seen c.next_extent.new.rack) after c.loop-fault.gathered)
           (scene (g.R.Rack.seen c.gather_extent.new.rack) c.gather_extent.new.vol c.gather_extent.new.gathered) (Ok c.in_ok-end-in-Ok-Found.end)) inv.sup
           (c.in_ok-end-in-Ok-Found.ensures chunk span (subst (λ (l : Layout). Contains l.chunks chunk) (sym layout) there)));
@@ -149,37 +148,24 @@ loop-fault-preserved g c =
 
 pub returns-in_err-end-in-Ok-Found-clause-ready : goal.returns-in_err-end-in-Ok-Found-clause-ready
 returns-in_err-end-in-Ok-Found-clause-ready g c =
-    let inv = c.loop-fault.invariant in
-    let after : Volume = record { store = c.next_extent.new.store; sup = c.loop-fault.vol.sup } in
-    let sums = tree_behind c.args.sums in
-    let others = c.in-Ok-Found.ensures.others in
-    let ready = c.in-Ok-Found.ensures.ready in
-    let layout : c.next_extent.new.store.layout ≡ c.args.vol.now.store.layout =
-    same_layout c.loop-fault.vol.store c.next_extent.new.store c.loop-fault.scan c.next_extent.new.scan others ∙ inv.layout in
     let of = c.requires.chunk in
-    let one = (subst (λ s. Gathers (extent_met s sums of.chunk c.loop-fault.end c.in-Ok-Found.leaf (Some c.in-Ok-Found.extent))
-    (scene (g.R.Rack.seen c.next_extent.new.rack) after c.loop-fault.gathered)
-    (scene (g.R.Rack.seen c.gather_extent.new.rack) c.gather_extent.new.vol c.gather_extent.new.gathered) (Err c.in_err-end-in-Ok-Found.field-0.0)) inv.sup
-    (c.in_err-end-in-Ok-Found.ensures of.chunk of.is (subst (λ (l : Layout). Contains l.chunks of.chunk) (sym layout) of.there))) in
+    let one = c.in_err-end-in-Ok-Found.ensures of.chunk of.is (subst (λ (l : Layout). Contains l.chunks of.chunk)
+    (sym (same_table g (goal.at.returns-in_err-end-in-Ok-Found-clause-ready g c).In-Ok-Found)) of.there) in
     ready_same (g.R.Rack.seen c.next_extent.new.rack) (g.R.Rack.seen c.gather_extent.new.rack) c.next_extent.new.store c.gather_extent.new.vol.store
-    c.next_extent.new.scan one.volume.store one.serves ready
+    c.next_extent.new.scan one.volume.store one.serves c.in-Ok-Found.ensures.ready
 
 pub returns-in_err-end-in-Ok-Found-clause-scanned : goal.returns-in_err-end-in-Ok-Found-clause-scanned
 returns-in_err-end-in-Ok-Found-clause-scanned g c chunk span there =
     let inv = c.loop-fault.invariant in
     let after : Volume = record { store = c.next_extent.new.store; sup = c.loop-fault.vol.sup } in
-    let sums = tree_behind c.args.sums in
-    let others = c.in-Ok-Found.ensures.others in
-    let ready = c.in-Ok-Found.ensures.ready in
-    let layout : c.next_extent.new.store.layout ≡ c.args.vol.now.store.layout =
-    same_layout c.loop-fault.vol.store c.next_extent.new.store c.loop-fault.scan c.next_extent.new.scan others ∙ inv.layout in
+    let came = c.in-Ok-Found.ensures in
+    let layout = same_table g (goal.at.returns-in_err-end-in-Ok-Found-clause-scanned g c).In-Ok-Found in
     let p = err_from_is_err_and c.from_residual.result c.from_residual.ensures.1 in
-    rw (p.1, p.2) (scanned_stops (inv.underway chunk span there) after refl c.in-Ok-Found.ensures.reads others ready
-    c.in-Ok-Found.ensures.lo c.in-Ok-Found.ensures.hi c.in-Ok-Found.extent c.in-Ok-Found.leaf
-    (next_told c.loop-fault.vol.sup (g.R.Rack.seen c.loop-fault.rack) (g.R.Rack.seen c.next_extent.new.rack)
-    c.loop-fault.vol.store c.next_extent.new.store c.loop-fault.scan c.next_extent.new.scan inv.sup c.in-Ok-Found.field-0-is c.in-Ok-Found.ensures.content)
+    rw (p.1, p.2) (scanned_stops (inv.underway chunk span there) after refl came.reads came.others came.ready came.lo came.hi
+    c.in-Ok-Found.extent c.in-Ok-Found.leaf
+    (told g (goal.at.returns-in_err-end-in-Ok-Found-clause-scanned g c).After-next_extent (ap Ok c.in-Ok-Found.field-0-is) came.content)
     c.in_err-end-in-Ok-Found.field-0.0
-    (subst (λ s. Gathers (extent_met s sums chunk c.loop-fault.end c.in-Ok-Found.leaf (Some c.in-Ok-Found.extent))
+    (subst (λ s. Gathers (extent_met s (tree_behind c.args.sums) chunk c.loop-fault.end c.in-Ok-Found.leaf (Some c.in-Ok-Found.extent))
     (scene (g.R.Rack.seen c.next_extent.new.rack) after c.loop-fault.gathered)
     (scene (g.R.Rack.seen c.gather_extent.new.rack) c.gather_extent.new.vol c.gather_extent.new.gathered) (Err c.in_err-end-in-Ok-Found.field-0.0))
     inv.sup (c.in_err-end-in-Ok-Found.ensures chunk span (subst (λ (l : Layout). Contains l.chunks chunk) (sym layout) there))))

@@ -1,6 +1,5 @@
 use Rattle.std.proofs.Common.{sym, ◌∙◌, arith}
-use Rattle.btr_scrub.proofs.Common.{flagged, list_any-false, list_any-true, slice_get_within}
-use Rattle.btr_chunk.specs.declared.stripe.Stripe.{Stripe}
+use Rattle.btr_scrub.proofs.Common.{Stripe, flagged, list_any-false, list_any-true, slice_get_within}
 use Rattle.btr_scrub_copies.specs.Fresh.{is_behind}
 use Rattle.btr_scrub.proofs.copied.has_behind.Goals as goal
 

@@ -1,6 +1,5 @@
 use Rattle.std.proofs.Common.{◌≡◌, ℕ, ◌<◌, Some, false, slice_get}
-use Rattle.btr_chunk.specs.declared.stripe.Stripe.{Stripe}
-use Rattle.btr_scrub.proofs.Common.{flagged}
+use Rattle.btr_scrub.proofs.Common.{Stripe, flagged}
 use Rattle.btr_scrub_copies.specs.Fresh.{is_behind}
 use Rattle.btr_scrub.proofs.copied.has_behind.Given as goal
 

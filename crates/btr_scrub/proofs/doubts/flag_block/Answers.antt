@@ -1,12 +1,13 @@
-use Rattle.std.proofs.Common.{ap, sym, ◌∙◌}
+use Rattle.std.proofs.Common.{IsNone, ap, refl, subst, sym, ◌∙◌}
 use Rattle.btr_chunk.specs.declared.place.Part.TheVariants.{Slice}
 use Rattle.btr_scrub.proofs.Common.{fails_at, fails_on}
-use Rattle.btr_scrub.proofs.Doubting.{fails_slice, flags_as, flags_plain, own_slice}
+use Rattle.btr_scrub.proofs.Doubting.{fails_slice, flags_as, flags_plain, own_part}
 use Rattle.btr_scrub.proofs.doubts.flag_block.Goals as goal
 
 pub flag_part-requires-clause-own : goal.flag_part-requires-clause-own
 flag_part-requires-clause-own g c =
-    own_slice c.args.store.now.layout c.args.want.now c.slice_of.result c.requires.sought (λ t e. sym (c.in-None.ensures t e)) c.slice_of.ensures.below
+    own_part c.args.store.now.layout c.args.want.now (Slice c.slice_of.result) c.requires.sought
+    (λ t e. (subst IsNone (c.in-None.ensures t e) refl, c.slice_of.ensures.below t e))
 
 pub returns-in-None-clause-flags : goal.returns-in-None-clause-flags
 returns-in-None-clause-flags g c =

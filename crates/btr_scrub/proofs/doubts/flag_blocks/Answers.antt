@@ -19,10 +19,7 @@ pub flag_block-requires-clause-open : goal.flag_block-requires-clause-open
 flag_block-requires-clause-open g c = open_still c.args.store.now.layout.devices c.loop-want.invariant.reads c.requires.open
 
 pub flag_block-requires-clause-sought : goal.flag_block-requires-clause-sought
-flag_block-requires-clause-sought g c =
-    looks_next c.args.store.now.layout
-    (g.R.Rack.seen c.args.rack.now).held c.args.blocks.now c.loop-want.blocks c.args.probe.now.failing.items c.loop-want.probe.failing.items
-    c.in-Some.want c.next.new.self c.in-Some.ensures c.loop-want.invariant.looked
+flag_block-requires-clause-sought g c = looks_next c.loop-want.invariant.looked c.in-Some.ensures
 
 pub loop-want-preserved : goal.loop-want-preserved
 loop-want-preserved g c =
@@ -33,17 +30,14 @@ loop-want-preserved g c =
     let want = c.in-Some.want in
     let mid = c.loop-want.probe.failing.items in
     let new = c.flag_block.new.probe.failing.items in
-    let ok = looks_next layout a.held c.args.blocks.now c.loop-want.blocks c.args.probe.now.failing.items mid want c.next.new.self c.in-Some.ensures
-    c.loop-want.invariant.looked in
-    let t = the_sought (sought layout want) ok in
+    let t = the_sought (sought layout want) (looks_next c.loop-want.invariant.looked c.in-Some.ensures) in
     record {
       ready = c.in_ok-flag_block.ensures.ready;
       reads = reads_more c.loop-want.invariant.reads c.in_ok-flag_block.ensures.reads;
       account = none_more a.account b.account d.account c.loop-want.invariant.account (c.in_ok-flag_block.ensures.account t.0 t.1);
       looked = looked_passed layout a.held c.args.blocks.now c.args.probe.now.failing.items new c.is_plain.result c.next.new.self (2 ^ 64 - 1)
           c.pass_if.new.blocks c.pass_if.ensures
-          (looked_more layout a.held c.args.blocks.now c.loop-want.blocks c.args.probe.now.failing.items mid new want c.next.new.self t.0
-          c.in-Some.ensures t.1 c.loop-want.invariant.looked
+          (looked_more c.loop-want.invariant.looked want c.next.new.self t.0 new c.in-Some.ensures t.1
           (subst (λ held. IfSome held (λ images. Flags mid (λ slot. fails_on images slot t.0) new)) (same_held c.loop-want.invariant.reads)
           (c.in_ok-flag_block.ensures.flags t.0 t.1)));
     }
@@ -58,9 +52,7 @@ returns-in_err-flag_block-clause-account g c =
     let d = g.R.Rack.seen c.flag_block.new.rack in
     let layout = c.args.store.now.layout in
     let want = c.in-Some.want in
-    let ok = looks_next layout a.held c.args.blocks.now c.loop-want.blocks c.args.probe.now.failing.items c.loop-want.probe.failing.items want
-    c.next.new.self c.in-Some.ensures c.loop-want.invariant.looked in
-    let t = the_sought (sought layout want) ok in
+    let t = the_sought (sought layout want) (looks_next c.loop-want.invariant.looked c.in-Some.ensures) in
     let p = err_from_is_err_and c.from_residual.result c.from_residual.ensures.1 in
     rw (p.1, p.2) (account_then {A = Unit {0}} (LiesInStripe layout) a b d (Err c.in_err-flag_block.field-0.0)
     (same_sure c.loop-want.invariant.reads) c.loop-want.invariant.account
@@ -68,7 +60,4 @@ returns-in_err-flag_block-clause-account g c =
     (c.in_err-flag_block.ensures.account t.0 t.1)))
 
 pub returns-clause-flags : goal.returns-clause-flags
-returns-clause-flags g c =
-    looked_done c.args.store.now.layout
-    (g.R.Rack.seen c.args.rack.now).held c.args.blocks.now c.loop-want.blocks c.args.probe.now.failing.items c.loop-want.probe.failing.items
-    c.in_default.ensures.0 c.loop-want.invariant.looked
+returns-clause-flags g c = looked_done c.loop-want.invariant.looked c.in_default.ensures.0

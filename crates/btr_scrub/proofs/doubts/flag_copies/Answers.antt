@@ -1,12 +1,14 @@
 use Rattle.std.proofs.Common.{◌+◌, ◌||◌, false, get_or, IfSome, Err, take, refl, sym, ap, ◌∙◌, subst, arith, ◌≡◌, ℕ, Bool, ◌<◌}
-use Rattle.btr_scrub.proofs.Common.{Flags, Mirror, err_from_is_err_and, fails_at, fails_on, list_any, range_with_len, reads_more, same_held, sought}
+use Rattle.btr_scrub.proofs.Common.{Flags, Mirror, err_from_is_err_and, fails_at, fails_on, has_mirror, list_any, range_with_len, reads_more, same_held, sought}
 use Rattle.std.proofs.lemmas.List.{take_all}
 use Rattle.std.proofs.lemmas.List.FromFn.{length-range_with_len, get_or-range_with_len}
 use Rattle.btr_read.proofs.Keeping.{none_more}
 use Rattle.btr_read.proofs.ReadsOn.{open_still, same_sure}
 use Rattle.btr_scrub_copies.proofs.Doing.{account_then}
 use Rattle.btr_scrub.specs.Judged.{IsOfPart}
-use Rattle.btr_scrub.proofs.Doubting.{all_of, both_of, fails_copies, flags_none, flags_then, own_copy, some_of, the_sought}
+use Rattle.btr_scrub.proofs.Doubting.{both_of, fails_copies, flags_none, flags_then, own_part, the_sought}
+use Rattle.btr_scrub.proofs.Scrubbing.{tell}
+use Rattle.std.proofs.lemmas.Option.{IfSome_then}
 use Rattle.btr_scrub.proofs.doubts.flag_copies.Goals as goal
 use Rattle.std.proofs.lemmas.List.Folds.{list_any_more}
 
@@ -21,10 +23,10 @@ loop-mirror-init g c = record {
   ready = c.requires.ready;
   reads = record { same = refl; later = omega arith; same_shut = refl };
   account = record { faults = refl; fresh = refl; missed = refl; last = refl; opening = refl; shut = refl };
-  flags = λ t e. all_of (g.R.Rack.seen c.args.rack.now).held
+  flags = λ t e. tell (g.R.Rack.seen c.args.rack.now).held
       (λ images. Flags c.args.probe.now.failing.items
       (λ slot. list_any (λ k. fails_at images t slot (Mirror k)) (take 0 (range_with_len 0 c.args.copies))) c.args.probe.now.failing.items)
-      (λ images. flags_none c.args.probe.now.failing.items
+      (λ images told. flags_none c.args.probe.now.failing.items
       (λ slot. list_any (λ k. fails_at images t slot (Mirror k)) (take 0 (range_with_len 0 c.args.copies))) (λ slot. refl));
 }
 
@@ -32,8 +34,8 @@ pub flag_part-requires-clause-open : goal.flag_part-requires-clause-open
 flag_part-requires-clause-open g c = open_still c.args.store.now.layout.devices c.loop-mirror.invariant.reads c.requires.open
 
 pub flag_part-requires-clause-own : goal.flag_part-requires-clause-own
-flag_part-requires-clause-own g c = own_copy c.args.store.now.layout c.args.want.now c.args.copies c.loop-mirror.mirror c.requires.sought
-    c.requires.copies c.loop-mirror-test.true
+flag_part-requires-clause-own g c = own_part c.args.store.now.layout c.args.want.now (Mirror c.loop-mirror.mirror) c.requires.sought
+    (λ t e. has_mirror t c.args.copies c.loop-mirror.mirror (c.requires.copies t e) c.loop-mirror-test.true)
 
 pub loop-mirror-preserved : goal.loop-mirror-preserved
 loop-mirror-preserved g c =
@@ -76,10 +78,10 @@ returns-clause-flags g c t e =
     let old = c.args.probe.now.failing.items in
     let new = c.loop-mirror.probe.failing.items in
     let n = c.args.copies in
-    some_of (g.R.Rack.seen c.args.rack.now).held
-    (λ images. Flags old (λ slot. list_any (λ k. fails_at images t slot (Mirror k)) (take c.loop-mirror.mirror (range_with_len 0 n))) new)
-    (λ images. Flags old (λ slot. fails_on images slot t) new)
+    IfSome_then (g.R.Rack.seen c.args.rack.now).held
+    {P = λ images. Flags old (λ slot. list_any (λ k. fails_at images t slot (Mirror k)) (take c.loop-mirror.mirror (range_with_len 0 n))) new}
+    {Q = λ images. Flags old (λ slot. fails_on images slot t) new} (c.loop-mirror.invariant.flags t e)
     (λ images h slot. h slot ∙ ap (λ b. get_or old slot false || b)
     (ap (list_any (λ k. fails_at images t slot (Mirror k)))
     (take_all c.loop-mirror.mirror (range_with_len 0 n) (omega (arith, length-range_with_len 0 n, c.loop-mirror-test.false)))
-    ∙ fails_copies images t n slot (c.requires.copies t e))) (c.loop-mirror.invariant.flags t e)
+    ∙ fails_copies images t n slot (c.requires.copies t e)))

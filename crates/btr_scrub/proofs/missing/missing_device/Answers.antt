@@ -7,14 +7,12 @@ use Rattle.btr_scrub.proofs.missing.missing_device.Goals as goal
 pub returns-in-Some-clause-devid : goal.returns-in-Some-clause-devid
 returns-in-Some-clause-devid c =
     let layout = c.args.store.now.layout in
-    let chunk = c.at.result.now in
-    flat_here devid_of (missing_stripes layout.devices) layout.chunks c.loop-i.i chunk c.in-Some.devid
-    (ap (λ cs. slice_get cs c.loop-i.i) (sym c.chunks-in-loop-i.ensures) ∙ c.at.ensures.chunk) c.in-Some.ensures
+    flat_here devid_of (missing_stripes layout.devices) layout.chunks c.loop-i.i c.at.result.now c.in-Some.devid
+    (rw c.chunks-in-loop-i.ensures at c.at.ensures.chunk) c.in-Some.ensures
     ∙ sym (ap (λ xs. option_map devid_of (slice_get xs 0)) c.loop-i.invariant)
 
 pub loop-i-preserved : goal.loop-i-preserved
 loop-i-preserved c =
     let layout = c.args.store.now.layout in
-    let chunk = c.at.result.now in
-    c.loop-i.invariant ∙ flat_over devid_of (missing_stripes layout.devices) layout.chunks c.loop-i.i chunk
-    (ap (λ cs. slice_get cs c.loop-i.i) (sym c.chunks-in-loop-i.ensures) ∙ c.at.ensures.chunk) c.in_default.ensures
+    c.loop-i.invariant ∙ flat_over devid_of (missing_stripes layout.devices) layout.chunks c.loop-i.i c.at.result.now
+    (rw c.chunks-in-loop-i.ensures at c.at.ensures.chunk) c.in_default.ensures

@@ -1,12 +1,8 @@
-use Rattle.std.proofs.Common.{get_or, refl, sym, subst, append-nil}
+use Rattle.std.proofs.Common.{get_or, sym, subst}
 use Rattle.btr_read.specs.declared.want.Want.TheVariants.{Tree}
-use Rattle.btr_scrub.proofs.Common.{kept_wants}
 use Rattle.btr_scrub.specs.Listed.{IsOfKind}
 use Rattle.btr_scrub.proofs.Sieving.{of_kind_at}
 use Rattle.btr_scrub.proofs.rows.keep_all.Goals as goal
-
-pub loop-want-init : goal.loop-want-init
-loop-want-init c = record { is_list = c.requires.is_list; kind = refl; wants = sym (append-nil (kept_wants c.args.kept.now)) }
 
 pub push-requires-clause-of_kind : goal.push-requires-clause-of_kind
 push-requires-clause-of_kind c =

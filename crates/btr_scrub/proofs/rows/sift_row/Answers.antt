@@ -1,6 +1,6 @@
 use Rattle.std.proofs.Common.{◌≡◌, ◌+◌, ◌∷◌, Option, ℕ, is_some, IfSome, refl, sym, ap, ◌∙◌, subst}
 use Rattle.std.specs.declared.vec.Vec.{Vec}
-use Rattle.btr_scrub.proofs.Common.{AddsAll, AreOfKind, Global, Want, chunk_at, sought, stood}
+use Rattle.btr_scrub.proofs.Common.{AddsAll, AreOfKind, Global, Want, sought, stood}
 use Rattle.btr_scrub.specs.Sifting.{sound_in}
 use Rattle.btr_scrub.proofs.Doubting.{the_sought}
 use Rattle.btr_scrub.proofs.OneRow.{chunk_of}
@@ -17,18 +17,15 @@ collect_row-requires g c =
 
 pub sound_in-requires-clause-row : goal.sound_in-requires-clause-row
 sound_in-requires-clause-row g c =
-    let layout = c.args.store.now.layout in
     let chunk = c.in-Some.chunk.now in
-    let at = sym (c.in-Some.ensures.chunk ∙ ap (λ cs. chunk_at cs c.addr.result) c.chunks.ensures ∙ ap (chunk_at layout.chunks) c.addr.ensures) in
+    let at = rw (c.chunks.ensures, c.addr.ensures) at (sym c.in-Some.ensures.chunk) in
     let n = row_next c.requires.ready c.args.first c.args.blocks.now c.collect_row.new.blocks c.collect_row.new.wants.items chunk c.in-Ok.number
     c.requires.apart c.requires.parity at (c.in-Ok.ensures chunk at) in
     record { row = row n; is = is_row n }
 
 pub keep_all-requires-clause-of_kind : goal.keep_all-requires-clause-of_kind
 keep_all-requires-clause-of_kind g c =
-    let layout = c.args.store.now.layout in
-    let got = c.in-Ok.ensures c.in-Some.chunk.now
-    (sym (c.in-Some.ensures.chunk ∙ ap (λ cs. chunk_at cs c.addr.result) c.chunks.ensures ∙ ap (chunk_at layout.chunks) c.addr.ensures)) in
+    let got = c.in-Ok.ensures c.in-Some.chunk.now (rw (c.chunks.ensures, c.addr.ensures) at (sym c.in-Some.ensures.chunk)) in
     let kind = c.args.sifted.now.kept.kind in
     subst (AreOfKind kind) (sym (c.deref.ensures.value ∙ ap (λ (v : Vec Want Global). v.items) c.in_ok-sound.ensures.wants ∙ got.1.are))
     (of_kind_first kind (c.args.first ∷ got.1.more) c.collect_row.new.blocks
@@ -38,7 +35,7 @@ pub returns-in-Some-2-clause-sifts : goal.returns-in-Some-2-clause-sifts
 returns-in-Some-2-clause-sifts g c =
     let layout = c.args.store.now.layout in
     let chunk = c.in-Some.chunk.now in
-    let at = sym (c.in-Some.ensures.chunk ∙ ap (λ cs. chunk_at cs c.addr.result) c.chunks.ensures ∙ ap (chunk_at layout.chunks) c.addr.ensures) in
+    let at = rw (c.chunks.ensures, c.addr.ensures) at (sym c.in-Some.ensures.chunk) in
     let n = row_next c.requires.ready c.args.first c.args.blocks.now c.collect_row.new.blocks c.collect_row.new.wants.items chunk c.in-Ok.number
     c.requires.apart c.requires.parity at (c.in-Ok.ensures chunk at) in
     let held = (g.R.Rack.seen c.args.rack.now).held in
@@ -52,7 +49,7 @@ pub returns-in-Ok-keep_all-clause-sifts : goal.returns-in-Ok-keep_all-clause-sif
 returns-in-Ok-keep_all-clause-sifts g c =
     let layout = c.args.store.now.layout in
     let chunk = c.in-Some.chunk.now in
-    let at = sym (c.in-Some.ensures.chunk ∙ ap (λ cs. chunk_at cs c.addr.result) c.chunks.ensures ∙ ap (chunk_at layout.chunks) c.addr.ensures) in
+    let at = rw (c.chunks.ensures, c.addr.ensures) at (sym c.in-Some.ensures.chunk) in
     let n = row_next c.requires.ready c.args.first c.args.blocks.now c.collect_row.new.blocks c.collect_row.new.wants.items chunk c.in-Ok.number
     c.requires.apart c.requires.parity at (c.in-Ok.ensures chunk at) in
     let held = (g.R.Rack.seen c.args.rack.now).held in

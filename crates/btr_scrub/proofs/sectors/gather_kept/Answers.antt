@@ -1,10 +1,12 @@
-use Rattle.std.proofs.Common.{◌+◌, ◌*◌, refl, subst, ◌∙◌}
+use Rattle.std.proofs.Common.{◌+◌, ◌*◌, refl, subst, ◌∙◌, arith}
 use Rattle.btr_scrub.proofs.Common.{AddsTo, Gathered, Sector, SumKind, stored_sum}
-use Rattle.btr_scrub.proofs.KeptSums.{kept_more, kept_none}
+use Rattle.btr_scrub.proofs.Gathering.{lists_none}
+use Rattle.btr_scrub.proofs.KeptSums.{kept_more}
 use Rattle.btr_scrub.proofs.sectors.gather_kept.Goals as goal
 
 pub loop-i-init : goal.loop-i-init
-loop-i-init c = kept_none c.args.addr c.args.most c.args.ahead.now c.args.gathered.now c.requires.is_list
+loop-i-init c =
+    record { few = omega arith; kept = λ i lt. absurd (omega (arith, lt)); lists = lists_none c.args.gathered.now c.requires.is_list }
 
 pub loop-i-preserved : goal.loop-i-preserved
 loop-i-preserved c =

@@ -1,6 +1,6 @@
 use Rattle.std.proofs.Common.{◌∷◌, ◌++◌, [], Err, length, refl, sym, ap, ◌∙◌, subst, arith, append_assoc, append-nil, length-append}
-use Rattle.btr_scrub.proofs.Common.{AccountsMend, AreApart, AreOfKind, CanSift, Layout, LiesInStripe, ShareNoRow, Sifts, SiftsNext, err_from_is_err_and}
-use Rattle.btr_scrub.proofs.Common.{reads_more, same_held, same_loans_then}
+use Rattle.btr_scrub.proofs.Common.{AccountsMend, AreApart, AreOfKind, Layout, LiesInStripe, ShareNoRow, Sifts, SiftsNext, err_from_is_err_and, reads_more}
+use Rattle.btr_scrub.proofs.Common.{same_held, same_loans_then}
 use Rattle.btr_read.proofs.Keeping.{none_more}
 use Rattle.btr_read.proofs.ReadsOn.{same_sure}
 use Rattle.btr_scrub_copies.proofs.Doing.{account_then}
@@ -30,9 +30,7 @@ sift_next-requires-clause-apart g c =
     (subst (AreApart c.args.store.now.layout 0) c.in-Some.ensures h.apart)
 
 pub sift_next-requires-clause-can : goal.sift_next-requires-clause-can
-sift_next-requires-clause-can g c =
-    let h = c.loop-want.invariant in
-    subst (λ (l : Layout). CanSift l c.loop-want.sifted) (sym h.loans.layout) h.sifts.can
+sift_next-requires-clause-can g c = rw c.loop-want.invariant.loans.layout c.loop-want.invariant.sifts.can
 
 pub sift_next-requires-clause-of_kind : goal.sift_next-requires-clause-of_kind
 sift_next-requires-clause-of_kind g c = subst (AreOfKind c.loop-want.sifted.kept.kind) c.in-Some.ensures c.loop-want.invariant.of_kind

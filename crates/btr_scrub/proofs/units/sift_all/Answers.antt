@@ -1,9 +1,10 @@
-use Rattle.std.proofs.Common.{Option, Some, None, Ok, Err, subst, sym}
-use Rattle.btr_scrub.proofs.Common.{CanSift, Layout, Looks, TreeRoot, quiet, same_held, scene}
+use Rattle.std.proofs.Common.{Option, Some, None, Ok, refl, subst}
+use Rattle.btr_scrub.proofs.Common.{Looks, TreeRoot, quiet, same_held, scene}
+use Rattle.btr_read.specs.Fate as fate
 use Rattle.btr_volume.specs.Tree.{tree_of}
 use Rattle.btr_volume.specs.declared.stop.Stop.TheVariants.{NoTree, Tree}
 use Rattle.btr_scrub.specs.Units.{with_extents}
-use Rattle.btr_scrub.proofs.Gathering.{gathers_fault, gathers_found, gathers_halt, gathers_no_tree}
+use Rattle.btr_scrub.proofs.Gathering.{gathers_fault, gathers_found, gathers_halt, gathers_stop}
 use Rattle.btr_scrub.proofs.Sieved.{sieves_as, sieves_stop, sieves_then, stands_as}
 use Rattle.btr_scrub.proofs.units.sift_all.Goals as goal
 
@@ -12,8 +13,7 @@ returns-in-Err-clause-sieves g c whole stands =
     let s = c.args.vol.now.sup in
     let old = g.R.Rack.seen c.args.rack.now in
     let new = g.R.Rack.seen c.tree.new.rack in
-    sieves_stop _ (scene old c.args.vol.now whole) new c.tree.new.self c.args.sieve.now whole (Tree c.in-Err.fault)
-    (gathers_halt (quiet (tree_of s 2)) (with_extents s c.args.vol.now.store.layout.chunks) (scene old c.args.vol.now whole)
+    sieves_stop (gathers_halt (quiet (tree_of s 2)) (with_extents s c.args.vol.now.store.layout.chunks) (scene old c.args.vol.now whole)
     (scene new c.tree.new.self whole) (Tree c.in-Err.fault)
     (gathers_fault (tree_of s 2) old new c.args.vol.now c.tree.new.self whole c.in-Err.fault c.in-Err.ensures.serves
     c.in-Err.ensures.reads c.in-Err.ensures.same c.in-Err.ensures.cause c.in-Err.ensures.content))
@@ -25,12 +25,11 @@ returns-in-Ok-None-clause-sieves g c whole stands =
     let new = g.R.Rack.seen c.tree.new.rack in
     let chunks = c.args.vol.now.store.layout.chunks in
     let mid = scene new c.tree.new.self whole in
-    sieves_then (quiet (tree_of s 2)) (with_extents s chunks) (scene old c.args.vol.now whole) mid None
+    sieves_then (with_extents s chunks)
     (gathers_found (tree_of s 2) old new c.args.vol.now c.tree.new.self whole None stands.is_whole c.in-Ok-None.ensures.serves
     c.in-Ok-None.ensures.reads c.in-Ok-None.ensures.same
     (subst (λ (r : Option TreeRoot). Looks c.args.vol.now.store.layout old new (tree_of s 2) (Ok r)) c.in-Ok-None.field-0-is c.in-Ok-None.ensures.content))
-    new c.tree.new.self c.args.sieve.now (Err (NoTree 2))
-    (sieves_stop _ mid new c.tree.new.self c.args.sieve.now whole (NoTree 2) (gathers_no_tree 2 mid c.in-Ok-None.ensures.serves))
+    (sieves_stop (gathers_stop (fate.NoTree 2) (NoTree 2) mid c.in-Ok-None.ensures.serves (λ B. (refl, refl)) tt))
 
 pub returns-in-Ok-Some-clause-sieves : goal.returns-in-Ok-Some-clause-sieves
 returns-in-Ok-Some-clause-sieves g c whole stands =
@@ -40,17 +39,12 @@ returns-in-Ok-Some-clause-sieves g c whole stands =
     let layout = c.args.vol.now.store.layout in
     let extents = c.in-Ok-Some.extents in
     let same = c.in-Ok-Some.ensures.same in
-    let mid = scene new c.tree.new.self whole in
-    let here = stands_as layout c.tree.new.self.store.layout old new whole c.args.sieve.now same.store.layout (same_held c.in-Ok-Some.ensures.reads) stands in
-    sieves_then (quiet (tree_of s 2)) (with_extents s layout.chunks) (scene old c.args.vol.now whole) mid (Some extents)
+    sieves_then (with_extents s layout.chunks)
     (gathers_found (tree_of s 2) old new c.args.vol.now c.tree.new.self whole (Some extents) stands.is_whole
     c.in-Ok-Some.ensures.serves c.in-Ok-Some.ensures.reads same
     (subst (λ (r : Option TreeRoot). Looks layout old new (tree_of s 2) (Ok r)) c.in-Ok-Some.field-0-is c.in-Ok-Some.ensures.content))
-    (g.R.Rack.seen c.sift_extents.new.rack) c.sift_extents.new.vol c.sift_extents.new.sieve c.sift_extents.result
-    (sieves_as (λ t l. with_extents t l.chunks (Some extents)) s c.tree.new.self.sup layout c.tree.new.self.store.layout mid
-    (g.R.Rack.seen c.sift_extents.new.rack) c.sift_extents.new.vol c.sift_extents.new.sieve c.sift_extents.result same.sup same.store.layout
-    (c.sift_extents.ensures.sieves whole here))
+    (sieves_as (λ t l. with_extents t l.chunks (Some extents)) same.sup same.store.layout
+    (c.sift_extents.ensures.sieves whole (stands_as same.store.layout (same_held c.in-Ok-Some.ensures.reads) stands)))
 
 pub sift_extents-requires-clause-can : goal.sift_extents-requires-clause-can
-sift_extents-requires-clause-can g c =
-    subst (λ (l : Layout). CanSift l c.args.sieve.now.sifted) (sym c.in-Ok-Some.ensures.same.store.layout) c.requires.can
+sift_extents-requires-clause-can g c = rw c.in-Ok-Some.ensures.same.store.layout c.requires.can

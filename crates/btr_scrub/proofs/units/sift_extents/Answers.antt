@@ -1,5 +1,5 @@
-use Rattle.std.proofs.Common.{Option, subst, sym}
-use Rattle.btr_scrub.proofs.Common.{CanSift, Layout, TreeRoot, in_chunks, quiet, same_held, scene}
+use Rattle.std.proofs.Common.{Option}
+use Rattle.btr_scrub.proofs.Common.{TreeRoot, in_chunks, quiet, same_held, scene}
 use Rattle.btr_volume.specs.Tree.{tree_of}
 use Rattle.btr_volume.specs.declared.stop.Stop.TheVariants.{Tree}
 use Rattle.btr_scrub.proofs.Gathering.{gathers_fault, gathers_found, gathers_halt}
@@ -12,8 +12,7 @@ returns-in-Err-clause-sieves g c whole stands =
     let old = g.R.Rack.seen c.args.rack.now in
     let new = g.R.Rack.seen c.tree.new.rack in
     let k = λ (sums : Option TreeRoot). in_chunks s sums c.args.extents.now c.args.vol.now.store.layout.chunks in
-    sieves_stop _ (scene old c.args.vol.now whole) new c.tree.new.self c.args.sieve.now whole (Tree c.in-Err.fault)
-    (gathers_halt (quiet (tree_of s 7)) k (scene old c.args.vol.now whole) (scene new c.tree.new.self whole) (Tree c.in-Err.fault)
+    sieves_stop (gathers_halt (quiet (tree_of s 7)) k (scene old c.args.vol.now whole) (scene new c.tree.new.self whole) (Tree c.in-Err.fault)
     (gathers_fault (tree_of s 7) old new c.args.vol.now c.tree.new.self whole c.in-Err.fault c.in-Err.ensures.serves
     c.in-Err.ensures.reads c.in-Err.ensures.same c.in-Err.ensures.cause c.in-Err.ensures.content))
 
@@ -25,15 +24,11 @@ returns-clause-sieves g c whole stands =
     let layout = c.args.vol.now.store.layout in
     let sums = c.in-Ok.sums in
     let same = c.in-Ok.ensures.same in
-    let mid = scene new c.tree.new.self whole in
-    let here = stands_as layout c.tree.new.self.store.layout old new whole c.args.sieve.now same.store.layout (same_held c.in-Ok.ensures.reads) stands in
-    sieves_then (quiet (tree_of s 7)) (λ sums. in_chunks s sums c.args.extents.now layout.chunks) (scene old c.args.vol.now whole) mid sums
+    sieves_then (λ (sums : Option TreeRoot). in_chunks s sums c.args.extents.now layout.chunks)
     (gathers_found (tree_of s 7) old new c.args.vol.now c.tree.new.self whole sums stands.is_whole c.in-Ok.ensures.serves
     c.in-Ok.ensures.reads same c.in-Ok.ensures.content)
-    (g.R.Rack.seen c.sift_chunks.new.rack) c.sift_chunks.new.vol c.sift_chunks.new.sieve c.sift_chunks.result
-    (sieves_as (λ t l. in_chunks t sums c.args.extents.now l.chunks) s c.tree.new.self.sup layout c.tree.new.self.store.layout mid
-    (g.R.Rack.seen c.sift_chunks.new.rack) c.sift_chunks.new.vol c.sift_chunks.new.sieve c.sift_chunks.result same.sup same.store.layout
-    (c.sift_chunks.ensures.sieves whole here))
+    (sieves_as (λ t l. in_chunks t sums c.args.extents.now l.chunks) same.sup same.store.layout
+    (c.sift_chunks.ensures.sieves whole (stands_as same.store.layout (same_held c.in-Ok.ensures.reads) stands)))
 
 pub sift_chunks-requires-clause-can : goal.sift_chunks-requires-clause-can
-sift_chunks-requires-clause-can g c = subst (λ (l : Layout). CanSift l c.args.sieve.now.sifted) (sym c.in-Ok.ensures.same.store.layout) c.requires.can
+sift_chunks-requires-clause-can g c = rw c.in-Ok.ensures.same.store.layout c.requires.can

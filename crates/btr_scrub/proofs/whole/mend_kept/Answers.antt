@@ -1,7 +1,6 @@
 use Rattle.std.proofs.Common.{Bool, length, Ok, Err, refl, sym, ap, ◌∙◌, subst}
 use Rattle.std.specs.declared.vec.Vec.{Vec}
-use Rattle.btr_scrub.proofs.Common.{Global, Works, all_count_for, all_writes_for, begun, flagged, kept_wants, listed_count_for, listed_writes_for, same_held}
-use Rattle.btr_scrub.proofs.Common.{serving}
+use Rattle.btr_scrub.proofs.Common.{Global, begun, kept_wants, listed_count_for, listed_writes_for, same_held, serving}
 use Rattle.btr_scrub_copies.specs.Writes.{AreWritable}
 use Rattle.btr_read.proofs.ReadsOn.{same_slots}
 use Rattle.btr_read.proofs.Serving.{serves_as}
@@ -48,55 +47,29 @@ mend_all-requires-clause-ready g c =
 
 pub returns-in-Ok-mend_all-clause-works : goal.returns-in-Ok-mend_all-clause-works
 returns-in-Ok-mend_all-clause-works g c =
-    let layout = c.args.vol.now.store.layout in
-    let wants = kept_wants c.args.sieve.sifted.kept in
     let a = g.R.Rack.seen c.args.rack.now in
-    let b = g.R.Rack.seen c.failing_images.new.rack in
-    let z = g.R.Rack.seen c.mend_all.new.rack in
-    let flags = c.in-Ok.failing.items in
-    let kept = flagged flags in
-    let was = serving a c.args.vol.now.store c.requires.ready.serves in
-    let start = begun c.args.sieve.sifted.sound c.args.sieve.unchecked in
-    let end = c.mend_all.new.progress.tally in
-    let flagged_so = subst (λ fs. Works {A = Unit {0}} layout c.args.write (all_writes_for (flagged fs) layout layout.chunks c.read_all-blocks.result)
-    (all_count_for (flagged fs) layout c.args.write layout.chunks c.read_all-blocks.result) b z c.begun.result end (Ok tt))
-    c.deref.ensures.value c.in-Ok-mend_all.ensures.works in
-    let listed = subst (λ ws. Works {A = Unit {0}} layout c.args.write (all_writes_for kept layout layout.chunks ws)
-    (all_count_for kept layout c.args.write layout.chunks ws) b z c.begun.result end (Ok tt)) c.read_all-blocks.ensures flagged_so in
-    let begun = subst (λ t. Works {A = Unit {0}} layout c.args.write (all_writes_for kept layout layout.chunks wants)
-    (all_count_for kept layout c.args.write layout.chunks wants) b z t end (Ok tt)) c.begun.ensures listed in
     record {
-      tally = end;
+      tally = c.mend_all.new.progress.tally;
       ended = Ok tt;
-      works = works_beside layout c.args.write wants flags a b z start end
-          (Ok tt) c.requires.ready.table was.own_slots c.requires.ready.given c.in-Ok.ensures.reads c.in-Ok.ensures.account c.in-Ok.ensures.flags begun;
+      works = works_beside c.args.vol.now.store.layout c.args.write (kept_wants c.args.sieve.sifted.kept) c.in-Ok.failing.items a
+          (g.R.Rack.seen c.failing_images.new.rack) (g.R.Rack.seen c.mend_all.new.rack) (begun c.args.sieve.sifted.sound c.args.sieve.unchecked)
+          c.mend_all.new.progress.tally (Ok tt) c.requires.ready.table (serving a c.args.vol.now.store c.requires.ready.serves).own_slots
+          c.requires.ready.given c.in-Ok.ensures.reads c.in-Ok.ensures.account c.in-Ok.ensures.flags
+          (rw (c.deref.ensures.value, c.read_all-blocks.ensures, c.begun.ensures) at c.in-Ok-mend_all.ensures.works);
       says = refl;
     }
 
 pub returns-clause-works : goal.returns-clause-works
 returns-clause-works g c =
-    let layout = c.args.vol.now.store.layout in
-    let wants = kept_wants c.args.sieve.sifted.kept in
     let a = g.R.Rack.seen c.args.rack.now in
-    let b = g.R.Rack.seen c.failing_images.new.rack in
-    let z = g.R.Rack.seen c.mend_all.new.rack in
-    let flags = c.in-Ok.failing.items in
-    let kept = flagged flags in
-    let was = serving a c.args.vol.now.store c.requires.ready.serves in
-    let start = begun c.args.sieve.sifted.sound c.args.sieve.unchecked in
-    let end = c.mend_all.new.progress.tally in
     let fault = c.in-Err-mend_all.fault in
-    let flagged_so = subst (λ fs. Works {A = Unit {0}} layout c.args.write (all_writes_for (flagged fs) layout layout.chunks c.read_all-blocks.result)
-    (all_count_for (flagged fs) layout c.args.write layout.chunks c.read_all-blocks.result) b z c.begun.result end (Err fault))
-    c.deref.ensures.value c.in-Err-mend_all.ensures.works in
-    let listed = subst (λ ws. Works {A = Unit {0}} layout c.args.write (all_writes_for kept layout layout.chunks ws)
-    (all_count_for kept layout c.args.write layout.chunks ws) b z c.begun.result end (Err fault)) c.read_all-blocks.ensures flagged_so in
-    let begun = subst (λ t. Works {A = Unit {0}} layout c.args.write (all_writes_for kept layout layout.chunks wants)
-    (all_count_for kept layout c.args.write layout.chunks wants) b z t end (Err fault)) c.begun.ensures listed in
     record {
-      tally = end;
+      tally = c.mend_all.new.progress.tally;
       ended = Err fault;
-      works = works_beside layout c.args.write wants flags a b z start end
-          (Err fault) c.requires.ready.table was.own_slots c.requires.ready.given c.in-Ok.ensures.reads c.in-Ok.ensures.account c.in-Ok.ensures.flags begun;
-      says = c.stop_of-in-Err-mend_all.ensures end;
+      works = works_beside c.args.vol.now.store.layout c.args.write (kept_wants c.args.sieve.sifted.kept) c.in-Ok.failing.items a
+          (g.R.Rack.seen c.failing_images.new.rack) (g.R.Rack.seen c.mend_all.new.rack) (begun c.args.sieve.sifted.sound c.args.sieve.unchecked)
+          c.mend_all.new.progress.tally (Err fault) c.requires.ready.table (serving a c.args.vol.now.store c.requires.ready.serves).own_slots
+          c.requires.ready.given c.in-Ok.ensures.reads c.in-Ok.ensures.account c.in-Ok.ensures.flags
+          (rw (c.deref.ensures.value, c.read_all-blocks.ensures, c.begun.ensures) at c.in-Err-mend_all.ensures.works);
+      says = c.stop_of-in-Err-mend_all.ensures c.mend_all.new.progress.tally;
     }

@@ -1,11 +1,10 @@
 use Rattle.std.proofs.Common.{◌+◌, [], Ok, length, drop, refl, sym, ap, ◌∙◌, subst, arith}
-use Rattle.btr_scrub.proofs.Common.{AreApart, CanSift, Follows, Layout, begun, drawn, err_from_is_err_and, exec, first_tally, kept_wants, no_part, take_at}
-use Rattle.btr_scrub.proofs.Common.{units_in, unread_by, wants_among}
+use Rattle.btr_scrub.proofs.Common.{AreApart, Follows, drawn, err_from_is_err_and, exec, first_tally, kept_wants, no_part, take_at, units_in, unread_by}
+use Rattle.btr_scrub.proofs.Common.{wants_among}
 use Rattle.btr_scrub_copies.specs.Writes.{AreWritable}
 use Rattle.btr_read.proofs.ReadsOn.{same_slots}
 use Rattle.std.specs.Prelude.{count_by}
 use Rattle.btr_scrub.specs.Repair.{is_unchecked}
-use Rattle.btr_scrub.specs.Sifting.{Judges}
 use Rattle.btr_scrub.specs.Whole.{Listed, Refused, WorksFrom}
 use Rattle.btr_scrub.proofs.Refusing.{not_apart}
 use Rattle.btr_scrub.proofs.Unitwise.{between_apart, units_apart}
@@ -26,12 +25,9 @@ returns-in_err-sieve-clause-scrubs g c =
 
 pub mend_kept-requires-clause-apart : goal.mend_kept-requires-clause-apart
 mend_kept-requires-clause-apart g c =
-    let layout = c.args.vol.now.store.layout in
     let sieve = c.in_ok-sieve.sieve in
-    let is = c.in_ok-sieve.ensures.sifts in
-    let judged = subst (Judges layout (g.R.Rack.seen c.sift_blocks.new.rack).held (wants_among is.0) sieve) c.in-None.is is.1.judged in
-    subst (λ (l : Layout). AreApart l 0 (kept_wants sieve.sifted.kept)) (sym c.in_ok-sieve.ensures.volume.store.layout)
-    (between_apart layout 0 sieve.end (kept_wants sieve.sifted.kept) judged.kept_apart)
+    rw c.in_ok-sieve.ensures.volume.store.layout (between_apart c.args.vol.now.store.layout 0 sieve.end (kept_wants sieve.sifted.kept)
+    (rw c.in-None.is at c.in_ok-sieve.ensures.sifts.1.judged).kept_apart)
 
 pub returns-in-Some-clause-scrubs : goal.returns-in-Some-clause-scrubs
 returns-in-Some-clause-scrubs g c =
@@ -41,7 +37,7 @@ returns-in-Some-clause-scrubs g c =
     let mid = g.R.Rack.seen c.sift_blocks.new.rack in
     let is = c.in_ok-sieve.ensures.sifts in
     let fault = c.in-Some.fault in
-    let refused = subst (Judges layout mid.held (wants_among is.0) c.in_ok-sieve.sieve) c.in-Some.is is.1.judged in
+    let refused = rw c.in-Some.is at is.1.judged in
     record {
       mid = mid;
       reads = c.in_ok-sieve.ensures.reads;
@@ -65,9 +61,7 @@ returns-in-None-clause-scrubs g c =
     let sieve = c.in_ok-sieve.sieve in
     let kept = kept_wants sieve.sifted.kept in
     let is = c.in_ok-sieve.ensures.sifts in
-    let judged = subst (Judges layout mid.held (wants_among is.0) sieve) c.in-None.is is.1.judged in
-    let works = subst (λ (l : Layout). WorksFrom l c.args.write kept (begun sieve.sifted.sound sieve.unchecked) mid new c.mend_kept.result)
-    c.in_ok-sieve.ensures.volume.store.layout c.mend_kept.ensures.works in
+    let judged = rw c.in-None.is at is.1.judged in
     record {
       mid = mid;
       reads = c.in_ok-sieve.ensures.reads;
@@ -77,13 +71,10 @@ returns-in-None-clause-scrubs g c =
         is.2,
         subst (λ n. WorksFrom layout c.args.write (wants_among is.0) (first_tally n) mid new c.mend_kept.result) is.1.unchecked
             (works_kept layout c.args.write kept (wants_among is.0) sieve.sifted.sound sieve.unchecked mid new c.requires.table judged.needed judged.sound
-            (0 + count_by is_unchecked is.0) (is.1.unchecked ∙ counts_stand is.0) c.mend_kept.result works),
+            (0 + count_by is_unchecked is.0) (is.1.unchecked ∙ counts_stand is.0) c.mend_kept.result
+            (rw c.in_ok-sieve.ensures.volume.store.layout at c.mend_kept.ensures.works)),
       );
     }
-
-pub mend_kept-requires-clause-can : goal.mend_kept-requires-clause-can
-mend_kept-requires-clause-can g c =
-    subst (λ (l : Layout). CanSift l c.in_ok-sieve.sieve.sifted) (sym c.in_ok-sieve.ensures.volume.store.layout) c.in_ok-sieve.ensures.sifts.1.can
 
 pub mend_kept-requires-clause-ready : goal.mend_kept-requires-clause-ready
 mend_kept-requires-clause-ready g c =

@@ -1,6 +1,7 @@
-use Rattle.std.proofs.Common.{◌≡◌, ◌≤◌, ◌∷◌, ◌++◌, [], length, OnOk, subst, sym, arith}
+use Rattle.std.proofs.Common.{◌≡◌, ◌≤◌, ◌∷◌, ◌++◌, [], length, OnOk, subst, sym, ap, ◌∙◌, arith}
+use Rattle.std.proofs.lemmas.Result.{on_ok_weaker}
 use Rattle.btr_scrub.proofs.Common.{items_in}
-use Rattle.btr_scrub.proofs.Paging.{one_more, pushed_on}
+use Rattle.btr_scrub.proofs.Paging.{one_more, pushed}
 use Rattle.btr_scrub.proofs.pages.Pages.push.Goals as goal
 
 pub invariant_of-self-2 : goal.invariant_of-self-2
@@ -13,5 +14,6 @@ invariant_of-self-2 g c = (
 
 pub returns : goal.returns
 returns g c = subst (λ xs. OnOk c.grow.result (items_in c.make_room.new.full.items c.grow.new.items.items ≡ xs ++ c.args.item ∷ [])) c.self.view_is
-    (pushed_on c.make_room.new.full.items c.make_room.new.last.items c.grow.new.items.items
-    (items_in c.self.inside.full.items c.self.inside.last.items) c.args.item c.grow.result c.in_ok-make_room.ensures.same c.grow.ensures.grown)
+    (on_ok_weaker c.grow.result (λ e. ap (items_in c.make_room.new.full.items) e
+    ∙ pushed c.make_room.new.full.items c.make_room.new.last.items (c.args.item ∷ []) ∙ ap (λ xs. xs ++ c.args.item ∷ []) c.in_ok-make_room.ensures.same)
+    c.grow.ensures.grown)

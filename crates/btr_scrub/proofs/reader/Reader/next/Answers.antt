@@ -1,6 +1,5 @@
-use Rattle.std.proofs.Common.{◌+◌, ◌*◌, ◌∷◌, ◌∙◌, sym, ap, subst, arith, drop}
-use Rattle.btr_scrub.proofs.Common.{Plain, Sector, slice_get_within, stored_sum, sum_size}
-use Rattle.btr_scrub.specs.Listed.{StandsIn, left_in}
+use Rattle.std.proofs.Common.{◌∙◌, sym, ap, arith}
+use Rattle.btr_scrub.proofs.Common.{slice_get_within, sum_size}
 use Rattle.btr_scrub.proofs.Reading.{IsInRun, addr_fits, at_end, at_last, at_next, at_plain_last, at_plain_next, at_tree, gives_end, one_more, one_plain}
 use Rattle.btr_scrub.proofs.Reading.{plain_fits, some_mark, some_sum}
 use Rattle.btr_scrub.proofs.reader.Reader.next.Goals.{In_ok-run}
@@ -57,32 +56,17 @@ invariant_of-self-in-None c = (at_last (in_run (goal.at.invariant_of-self-in-Non
     (c.size.ensures ∙ ap sum_size c.kind.ensures)).1
 
 pub invariant_of-self-in-Some : goal.invariant_of-self-in-Some
-invariant_of-self-in-Some c = subst (λ n. StandsIn c.self.inside.listed.now c.self.inside.run n (c.self.inside.sum + c.size.result)
-    c.self.inside.mark) (sym c.in-Some.ensures.0) (at_next (in_run (goal.at.invariant_of-self-in-Some c).In_ok-run) c.in-Sectors.is
+invariant_of-self-in-Some c = rw c.in-Some.ensures.0 (at_next (in_run (goal.at.invariant_of-self-in-Some c).In_ok-run) c.in-Sectors.is
     c.in-Some.ensures.1 c.size.result (c.size.ensures ∙ ap sum_size c.kind.ensures)).1
 
 pub returns-in-None : goal.returns-in-None
-returns-in-None c =
-    sym c.self.view_is ∙ (at_last (in_run (goal.at.returns-in-None c).In_ok-run) c.in-Sectors.is c.in-None.ensures c.size.result
-    (c.size.ensures ∙ ap sum_size c.kind.ensures)).0
-    ∙ ap (λ a. Sector (c.in_ok-run.run'.addr + a * 4096) (stored_sum c.self.inside.listed.now.kind
-    (drop c.self.inside.sum c.self.inside.listed.now.sums)) ∷ left_in c.self.inside.listed.now (c.self.inside.run + 1) 0
-    (c.self.inside.sum + c.size.result) c.self.inside.mark) (sym c.from.ensures)
-    ∙ ap (λ s. Sector (c.in_ok-run.run'.addr + c.from.result * 4096) s ∷ left_in c.self.inside.listed.now (c.self.inside.run + 1) 0
-    (c.self.inside.sum + c.size.result) c.self.inside.mark) (sym c.sum_at-sum.ensures.sum)
+returns-in-None c = rw (c.from.ensures, c.sum_at-sum.ensures.sum) (sym c.self.view_is
+    ∙ (at_last (in_run (goal.at.returns-in-None c).In_ok-run) c.in-Sectors.is c.in-None.ensures c.size.result (c.size.ensures ∙ ap sum_size c.kind.ensures)).0)
 
 pub returns-in-Some : goal.returns-in-Some
-returns-in-Some c =
-    sym c.self.view_is ∙ (at_next (in_run (goal.at.returns-in-Some c).In_ok-run) c.in-Sectors.is c.in-Some.ensures.1 c.size.result
-    (c.size.ensures ∙ ap sum_size c.kind.ensures)).0
-    ∙ ap (λ n. Sector (c.in_ok-run.run'.addr + c.self.inside.past * 4096)
-    (stored_sum c.self.inside.listed.now.kind (drop c.self.inside.sum c.self.inside.listed.now.sums)) ∷ left_in c.self.inside.listed.now
-    c.self.inside.run n (c.self.inside.sum + c.size.result) c.self.inside.mark) (sym c.in-Some.ensures.0)
-    ∙ ap (λ a. Sector (c.in_ok-run.run'.addr + a * 4096) (stored_sum c.self.inside.listed.now.kind
-    (drop c.self.inside.sum c.self.inside.listed.now.sums)) ∷ left_in c.self.inside.listed.now c.self.inside.run c.in-Some.past
-    (c.self.inside.sum + c.size.result) c.self.inside.mark) (sym c.from.ensures)
-    ∙ ap (λ s. Sector (c.in_ok-run.run'.addr + c.from.result * 4096) s ∷ left_in c.self.inside.listed.now c.self.inside.run c.in-Some.past
-    (c.self.inside.sum + c.size.result) c.self.inside.mark) (sym c.sum_at-sum.ensures.sum)
+returns-in-Some c = rw (c.in-Some.ensures.0, c.from.ensures, c.sum_at-sum.ensures.sum) (sym c.self.view_is
+    ∙ (at_next (in_run (goal.at.returns-in-Some c).In_ok-run) c.in-Sectors.is c.in-Some.ensures.1 c.size.result
+    (c.size.ensures ∙ ap sum_size c.kind.ensures)).0)
 
 -- ---- sectors without a checksum
 
@@ -110,21 +94,15 @@ invariant_of-self-in-None-behind c =
 pub invariant_of-self-in-Some-behind : goal.invariant_of-self-in-Some-behind
 invariant_of-self-in-Some-behind c =
     let one = one_plain (in_run (goal.at.invariant_of-self-in-Some-behind c).In_ok-run) c.in-Unsummed.is in
-    subst (λ n. StandsIn c.self.inside.listed.now c.self.inside.run n c.self.inside.sum c.self.inside.mark) (sym c.in-Some-behind.ensures.0)
+    rw c.in-Some-behind.ensures.0
     (at_plain_next (in_run (goal.at.invariant_of-self-in-Some-behind c).In_ok-run) c.in-Unsummed.is 1 (omega (arith, one, c.in-Some-behind.ensures.1))).1
 
 pub returns-in-None-behind : goal.returns-in-None-behind
-returns-in-None-behind c =
-    sym c.self.view_is ∙ (at_plain_last (in_run (goal.at.returns-in-None-behind c).In_ok-run) c.in-Unsummed.is 1 c.in-None-behind.ensures).0
-    ∙ ap (λ a. Plain (c.in_ok-run.run'.addr + a * 4096) ∷ left_in c.self.inside.listed.now (c.self.inside.run + 1) 0 c.self.inside.sum c.self.inside.mark)
-    (sym c.from-in-Unsummed.ensures)
+returns-in-None-behind c = rw c.from-in-Unsummed.ensures
+    (sym c.self.view_is ∙ (at_plain_last (in_run (goal.at.returns-in-None-behind c).In_ok-run) c.in-Unsummed.is 1 c.in-None-behind.ensures).0)
 
 pub returns-in-Some-behind : goal.returns-in-Some-behind
 returns-in-Some-behind c =
     let one = one_plain (in_run (goal.at.returns-in-Some-behind c).In_ok-run) c.in-Unsummed.is in
-    sym c.self.view_is ∙ (at_plain_next (in_run (goal.at.returns-in-Some-behind c).In_ok-run) c.in-Unsummed.is 1
-    (omega (arith, one, c.in-Some-behind.ensures.1))).0
-    ∙ ap (λ a. Plain (c.in_ok-run.run'.addr + a * 4096) ∷ left_in c.self.inside.listed.now c.self.inside.run (c.self.inside.past + 1) c.self.inside.sum
-    c.self.inside.mark) (sym c.from-in-Unsummed.ensures)
-    ∙ ap (λ n. Plain (c.in_ok-run.run'.addr + c.from-in-Unsummed.result * 4096) ∷ left_in c.self.inside.listed.now c.self.inside.run n c.self.inside.sum
-    c.self.inside.mark) (sym c.in-Some-behind.ensures.0)
+    rw (c.in-Some-behind.ensures.0, c.from-in-Unsummed.ensures) (sym c.self.view_is
+    ∙ (at_plain_next (in_run (goal.at.returns-in-Some-behind c).In_ok-run) c.in-Unsummed.is 1 (omega (arith, one, c.in-Some-behind.ensures.1))).0)
