@@ -1,7 +1,7 @@
 #!/usr/bin/env python3
 """Works out what `restore -i` comes to where blocks of a small volume are lost, each alone and each two of them, from the images alone:
 
-    tests/losses.py PROGRAM NAME        (PROGRAM is btr_test_volumes; NAME is V1d, S, W5 or Rows6)
+    tests/losses.py PROGRAM NAME        (PROGRAM is btr_test_volumes; NAME is V1d, S, Raid5 or Rows6)
 
 It prints what `crates/btr_salvage_tests/src/losses.rt` has of the volume: for each block the bytes that are made wrong, so that no copy and no
 parity gives it, and the CRC-32C of all cases in their order. With LINES=1 each case is printed too. A case is a block alone or two of them, by

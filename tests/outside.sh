@@ -2,8 +2,8 @@
 # Runs the built program where standard descriptors are closed, and on images that are no files. With two folders it
 # also restores into places that fail:
 #
-#     mkdir /tmp/w5 /tmp/made && cd crates/btr_test_volumes && rt run -- W5 /tmp/w5 && rt run -- 30 /tmp/made
-#     tests/outside.sh /tmp/w5 /tmp/made
+#     mkdir /tmp/raid5 /tmp/made && cd crates/btr_test_volumes && rt run -- Raid5 /tmp/raid5 && rt run -- 30 /tmp/made
+#     tests/outside.sh /tmp/raid5 /tmp/made
 #
 # into full file systems (as root, for they are mounted), with calls of the system that fail or are interrupted (by
 # strace), and into a folder that is moved away meanwhile. Ends with 0 where all is as it should be, and says what

@@ -21,9 +21,9 @@ pub enum RowVolume {
     /// `V1d` with the features of present filesystems, and a compressed file `z`.
     V2,
     /// Three images: the data is RAID5 on them, system and metadata are RAID1 on the first two.
-    W5,
+    Raid5,
     /// Four images: the data is RAID6 on them, system and metadata are RAID1 on the first two.
-    W6,
+    Raid6,
     /// A subvolume `sub`, and a snapshot `snap` in which the subvolume's name stands too. No files.
     S,
     /// A second file, `b`, that shares an extent with `a`.

@@ -86,9 +86,9 @@ fn rows_solve(
 type Chunk = (RowVolume, &'static [&'static str], usize, u64);
 
 const CHUNKS: [Chunk; 8] = [
-    (RowVolume::W5, &["a", "b", "c"], 1, 2560),
+    (RowVolume::Raid5, &["a", "b", "c"], 1, 2560),
     (RowVolume::Rows5, &["a", "b", "c"], 1, 2560),
-    (RowVolume::W6, &["a", "b", "c", "d"], 2, 2560),
+    (RowVolume::Raid6, &["a", "b", "c", "d"], 2, 2560),
     (RowVolume::Rows6, &["a", "b", "c", "d", "e"], 2, 2560),
     (RowVolume::Rows5, &["a", "b", "c"], 1, 256),
     (RowVolume::Rows5, &["a", "b", "c"], 1, 512),

@@ -34,8 +34,8 @@ const BLOCKS: [(RowVolume, SumKind, u64); 14] = [
     (RowVolume::V1, SumKind::Crc32c, 6),
     (RowVolume::V1d, SumKind::Crc32c, 6),
     (RowVolume::V2, SumKind::Crc32c, 8),
-    (RowVolume::W5, SumKind::Crc32c, 6),
-    (RowVolume::W6, SumKind::Crc32c, 6),
+    (RowVolume::Raid5, SumKind::Crc32c, 6),
+    (RowVolume::Raid6, SumKind::Crc32c, 6),
     (RowVolume::S, SumKind::Crc32c, 8),
     (RowVolume::X2, SumKind::Crc32c, 6),
     (RowVolume::X3, SumKind::Crc32c, 6),
@@ -87,10 +87,10 @@ const IMAGES: [(RowVolume, &[&str]); 8] = [
     (RowVolume::V1, &["a"]),
     (RowVolume::V2, &["a"]),
     (RowVolume::M1, &["a", "b"]),
-    (RowVolume::W5, &["a", "b", "c"]),
+    (RowVolume::Raid5, &["a", "b", "c"]),
     (RowVolume::M3, &["a", "b", "c"]),
     (RowVolume::Rows5, &["a", "b", "c"]),
-    (RowVolume::W6, &["a", "b", "c", "d"]),
+    (RowVolume::Raid6, &["a", "b", "c", "d"]),
     (RowVolume::Rows6, &["a", "b", "c", "d", "e"]),
 ];
 

@@ -57,8 +57,8 @@ fn comes_to(rt: &impl Abort, alloc: Global, job: &Job, wanted: &Outcome) -> Resu
 const SMALL: [(RowVolume, &[&str]); 4] = [
     (RowVolume::V1, &["a"]),
     (RowVolume::V1d, &["a"]),
-    (RowVolume::W5, &["a", "c"]),
-    (RowVolume::W6, &["b", "d"]),
+    (RowVolume::Raid5, &["a", "c"]),
+    (RowVolume::Raid6, &["b", "d"]),
 ];
 
 #[test]
@@ -77,7 +77,7 @@ fn files_of_small_volumes(rt: HostRuntime) -> Result<(), Fail> {
 const OTHERS: [(RowVolume, &[&str], RestorePlan, Outcome); 5] = [
     // The file whose first sector is lost is begun, and has no byte.
     (
-        RowVolume::W5,
+        RowVolume::Raid5,
         &["b"],
         ALL,
         Outcome {

@@ -147,8 +147,8 @@ const SOUND: &[(RowVolume, &[&str])] = &[
     (RowVolume::S, &["check", "a"]),
     (RowVolume::X2, &["check", "a"]),
     (RowVolume::L, &["check", "a"]),
-    (RowVolume::W5, &["check", "--check-data-csum", "a", "c"]),
-    (RowVolume::W6, &["check", "--check-data-csum", "b", "d"]),
+    (RowVolume::Raid5, &["check", "--check-data-csum", "a", "c"]),
+    (RowVolume::Raid6, &["check", "--check-data-csum", "b", "d"]),
 ];
 
 #[test]

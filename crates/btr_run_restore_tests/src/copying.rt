@@ -13,7 +13,7 @@ const ROWS: &[(RowVolume, &[&str], &[u8], u8, bool)] = &[
         false,
     ),
     (
-        RowVolume::W5,
+        RowVolume::Raid5,
         &["restore", "-i", "out", "b"],
         b"broken lost 16777216 /a\ndirectories 0 files 4 skipped 0 broken 1\n",
         1,
@@ -34,7 +34,7 @@ const ROWS: &[(RowVolume, &[&str], &[u8], u8, bool)] = &[
         false,
     ),
     (
-        RowVolume::W5,
+        RowVolume::Raid5,
         &["send", "out", "v", "b"],
         b"error: lost block 16777216\n",
         1,

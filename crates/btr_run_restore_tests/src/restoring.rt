@@ -40,8 +40,8 @@ const COUNTS: &[u8] = b"directories 0 files 5 skipped 0\n";
 // A volume, and the words, the text and the exit status of a restore of it.
 const WHOLE: &[(RowVolume, &[&str], &[u8], u8)] = &[
     (RowVolume::V1, &["restore", "out", "a"], COUNTS, 0),
-    (RowVolume::W5, &["restore", "out", "a", "c"], COUNTS, 0),
-    (RowVolume::W6, &["restore", "out", "b", "d"], COUNTS, 0),
+    (RowVolume::Raid5, &["restore", "out", "a", "c"], COUNTS, 0),
+    (RowVolume::Raid6, &["restore", "out", "b", "d"], COUNTS, 0),
     (RowVolume::M3, &["restore", "out", "a"], COUNTS, 0),
     (
         RowVolume::V2,

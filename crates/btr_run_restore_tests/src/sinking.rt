@@ -31,7 +31,7 @@ const LOST: &[u8] = b"error: lost block 16777216\n";
 #[test]
 fn the_first_block_that_is_missing(rt: HostRuntime) -> Result<(), CallFault> {
     let alloc = rt.alloc();
-    let mut rack = row(alloc, RowVolume::W5)?;
+    let mut rack = row(alloc, RowVolume::Raid5)?;
     ends_at_a(&rt, alloc, &mut rack, &["restore", "out", "b"], LOST, 1)
 }
 
@@ -77,7 +77,7 @@ fn a_failing_destination(rt: HostRuntime) -> Result<(), CallFault> {
 #[test]
 fn a_destination_that_fails_behind_a_missing_block(rt: HostRuntime) -> Result<(), CallFault> {
     let alloc = rt.alloc();
-    let mut rack = row(alloc, RowVolume::W5)?;
+    let mut rack = row(alloc, RowVolume::Raid5)?;
     let words = ["restore", "out", "b"];
     let told = call_where(alloc, &mut rack, &words, Failing::Destination(14))?;
     assert_eq!(rt; told.answer, Answer::SinkFault);

@@ -9,14 +9,14 @@ use std::alloc::Global;
 // A volume, its images, those that are spoiled, how many writes mend them, and the text.
 const COUNTED: &[(RowVolume, &[&str], &[&str], u64, &[u8])] = &[
     (
-        RowVolume::W5,
+        RowVolume::Raid5,
         &["a", "b", "c"],
         &["a"],
         8,
         b"blocks 8 bad 8 repaired 8 lost 0 parity 0 unchecked 0\n",
     ),
     (
-        RowVolume::W6,
+        RowVolume::Raid6,
         &["a", "b", "c", "d"],
         &["a", "d"],
         10,

@@ -233,7 +233,7 @@ struct Spoiled {
 
 const SPOILED5: Spoiled = Spoiled {
     rows: Rows {
-        volume: RowVolume::W5,
+        volume: RowVolume::Raid5,
         names: &["a", "b", "c"],
     },
     spoiled: &["a"],
@@ -242,7 +242,7 @@ const SPOILED5: Spoiled = Spoiled {
 
 const SPOILED6: Spoiled = Spoiled {
     rows: Rows {
-        volume: RowVolume::W6,
+        volume: RowVolume::Raid6,
         names: &["a", "b", "c", "d"],
     },
     spoiled: &["a", "d"],

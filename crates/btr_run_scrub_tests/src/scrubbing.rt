@@ -97,7 +97,7 @@ const WRONG: &[u8] = b"blocks 8 bad 0 repaired 0 lost 0 parity 1 unchecked 0\n";
 #[test]
 fn a_wrong_parity(rt: HostRuntime) -> Result<(), CallFault> {
     let alloc = rt.alloc();
-    let rack = &mut row(alloc, RowVolume::W5)?;
+    let rack = &mut row(alloc, RowVolume::Raid5)?;
     let right = turn(rack, PARITY.image, PARITY.off)?;
     let all = ["scrub", "start", "a", "b", "c"];
     scrubs(&rt, alloc, rack, &all, WRONG, PARITY, right)?;

@@ -28,7 +28,7 @@ fn add(rack: &mut MemRack, name: &str, number: u8) -> Result<(), CallFault> {
 
 // A volume in which the sector of the second slice, which has no checksum, was full of ones, and reads as zeros now; the one of the first is bad.
 fn without_both(alloc: Global) -> Result<MemRack, CallFault> {
-    let mut rack = row(alloc, RowVolume::W6)?;
+    let mut rack = row(alloc, RowVolume::Raid6)?;
     add(&mut rack, "a", 255)?;
     add(&mut rack, "c", 1)?;
     add(&mut rack, "d", 2)?;
@@ -44,7 +44,7 @@ fn both_slices_are_bad(rt: HostRuntime) -> Result<(), CallFault> {
     let mut rack = without_both(alloc)?;
     let told = scrub(alloc, &mut rack, NAMES)?;
     assert_eq!(rt; told.text.as_slice(), TEXT);
-    let right = row(alloc, RowVolume::W6)?;
+    let right = row(alloc, RowVolume::Raid6)?;
     for name in NAMES {
         assert_eq!(rt; differing_page(&right, &rack, name), None);
     }
@@ -71,7 +71,7 @@ fn has_old_parities(alloc: Global, rack: &MemRack) -> Result<bool, CallFault> {
 
 // Whether the scrub stopped as the first image was synced: its sector is right, and no parity was written.
 fn stopped_between(alloc: Global, rack: &MemRack, told: &Told) -> Result<bool, CallFault> {
-    let right = row(alloc, RowVolume::W6)?;
+    let right = row(alloc, RowVolume::Raid6)?;
     let is_written = is_as_in(&right, rack, "a");
     let is_at_fault = told.text.as_slice() == b"error: image 0 failed\n".as_slice();
     Ok(is_at_fault && is_written && has_old_parities(alloc, rack)?)

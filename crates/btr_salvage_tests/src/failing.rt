@@ -27,7 +27,7 @@ fn is_part(some: &Outcome, all: &Outcome) -> bool {
 // Each call of the sink and of the output fails in its turn: that is the answer. The thirteenth of the sink and the third of the output don't come.
 #[test]
 fn calls_of_the_sink_and_the_output(rt: HostRuntime) -> Result<(), Fail> {
-    let mut rack = small(rt.alloc(), RowVolume::W5, NAMES)?;
+    let mut rack = small(rt.alloc(), RowVolume::Raid5, NAMES)?;
     let all = salvaged_from(&rt, rt.alloc(), &mut rack, NOTHING)?;
     for n in 1..=13 {
         let answer = if n == 13 { all.answer } else { Err(Stop::Sink) };
@@ -47,7 +47,7 @@ fn calls_of_the_sink_and_the_output(rt: HostRuntime) -> Result<(), Fail> {
 // Each call of the rack fails in its turn: the run ends as one that could not read a block, or as it does where nothing fails, as behind the last call.
 #[test]
 fn calls_of_the_rack(rt: HostRuntime) -> Result<(), Fail> {
-    let mut rack = small(rt.alloc(), RowVolume::W5, NAMES)?;
+    let mut rack = small(rt.alloc(), RowVolume::Raid5, NAMES)?;
     let all = salvaged_from(&rt, rt.alloc(), &mut rack, NOTHING)?;
     let mut unread = false;
     for call in 1..=48 {

@@ -54,8 +54,8 @@ const S: Losses = Losses {
     told: 2212408975,
 };
 
-const W5: Losses = Losses {
-    which: RowVolume::W5,
+const RAID5: Losses = Losses {
+    which: RowVolume::Raid5,
     names: &["a", "b", "c"],
     blocks: &[
         &[("a", 1048776, 255), ("b", 1048776, 1)],
@@ -154,7 +154,7 @@ fn lose(
 
 #[test]
 fn each_block_and_each_two(rt: HostRuntime) -> Result<(), Fail> {
-    for volume in [V1D, S, W5, ROWS6] {
+    for volume in [V1D, S, RAID5, ROWS6] {
         let mut rack = small(rt.alloc(), volume.which, volume.names)?;
         let mut register = u32::MAX;
         for block in volume.blocks {

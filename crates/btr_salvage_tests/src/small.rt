@@ -22,7 +22,7 @@ fn files(files: u64, broken: u64) -> Salvaged {
 // The file whose first sector is lost isn't begun.
 #[test]
 fn a_lost_sector(rt: HostRuntime) -> Result<(), Fail> {
-    let mut rack = small(rt.alloc(), RowVolume::W5, &["b"])?;
+    let mut rack = small(rt.alloc(), RowVolume::Raid5, &["b"])?;
     let all = salvaged_from(&rt, rt.alloc(), &mut rack, NOTHING)?;
     assert_eq!(rt; all.answer, Ok(files(4, 1)));
     let text = b"broken lost 16777216 /a\ndirectories 0 files 4 skipped 0 broken 1\n";

@@ -84,9 +84,9 @@ fn mended(alloc: Global, rack: &mut MemRack) -> Option<MendedRow>
 fn one_full_stripe(rt: HostRuntime) -> Result<(), Fail> {
     let alloc = rt.alloc();
     let names = ["a", "b", "c", "d"];
-    let mut right = row(alloc, RowVolume::W6)?;
+    let mut right = row(alloc, RowVolume::Raid6)?;
     turn(&mut right, &[("a", 10489856), ("d", 10489856)])?;
-    let mut rack = row(alloc, RowVolume::W6)?;
+    let mut rack = row(alloc, RowVolume::Raid6)?;
     turn(
         &mut rack,
         &[
@@ -108,6 +108,6 @@ fn one_full_stripe(rt: HostRuntime) -> Result<(), Fail> {
     if rack.count() > 0 {
         assert_eq!(rt; mended(alloc, &mut rack), Some(expected));
     }
-    expect_same(&rt, Made::Row(RowVolume::W6), &right, &rack);
+    expect_same(&rt, Made::Row(RowVolume::Raid6), &right, &rack);
     Ok(())
 }

@@ -67,27 +67,27 @@ fn as_made(volume: RowVolume) -> Shape {
 pub(super) enum Made {
     /// As it was made.
     Row(RowVolume),
-    /// `W6`, in which the chunk of data is of another type. Its two sectors stand at the beginning of each stripe.
+    /// `Raid6`, in which the chunk of data is of another type. Its two sectors stand at the beginning of each stripe.
     Raid0,
     Raid10,
     Raid1c4,
-    /// `W5`, in which the first of the two sectors of data has no checksum.
+    /// `Raid5`, in which the first of the two sectors of data has no checksum.
     HalfSummed,
-    /// `W5`, whose second extent of data goes on without checksums: to the end of the first slice, and over the first sector of the other one. The
+    /// `Raid5`, whose second extent of data goes on without checksums: to the end of the first slice, and over the first sector of the other one. The
     /// image of this name, if there is one, is older.
     Unsummed5(&'static str),
-    /// The same in `W6`.
+    /// The same in `Raid6`.
     Unsummed6(&'static str),
-    /// `W5`, whose second extent of data goes on without checksums to the end of its full stripe. The images of these names are older.
+    /// `Raid5`, whose second extent of data goes on without checksums to the end of its full stripe. The images of these names are older.
     Filled5(&'static [&'static str]),
-    /// The same in `W6`.
+    /// The same in `Raid6`.
     Filled6(&'static [&'static str]),
     /// `Raid10`, whose second extent of data goes on without checksums, over the end of the first stripe's element. The image of this name, if there
     /// is one, is older.
     UnsummedRaid10(&'static str),
     /// The same in `Raid1c4`.
     UnsummedRaid1c4(&'static str),
-    /// `W5`, in which the third page of the first slice of data is the superblock.
+    /// `Raid5`, in which the third page of the first slice of data is the superblock.
     BesideSuper,
     /// `V1d`, in which the second copy of the leaf of the checksum tree begins at the superblock.
     OverSuper,
@@ -100,7 +100,7 @@ impl Made {
     pub(super) fn names(self) -> &'static [&'static str] {
         match self {
             Made::Row(RowVolume::M1) => &["a", "b"],
-            Made::Row(RowVolume::W6)
+            Made::Row(RowVolume::Raid6)
             | Made::Raid0
             | Made::Raid10
             | Made::Raid1c4
@@ -123,7 +123,7 @@ impl Made {
     }
 }
 
-// The length, the type and the number of substripes in the item of the data chunk of `W6`.
+// The length, the type and the number of substripes in the item of the data chunk of `Raid6`.
 const LENGTH_OF_FOUR: Field = Field {
     at: CHUNKS + 15592,
     size: 8,
@@ -143,7 +143,7 @@ const PAIRS_OF_FOUR: Field = Field {
 };
 
 const RAID0: Shape = Shape {
-    volume: RowVolume::W6,
+    volume: RowVolume::Raid6,
     changed: &["a", "b"],
     leaf: CHUNKS,
     fields: &[LENGTH_OF_FOUR, KIND_OF_FOUR, PAIRS_OF_FOUR],
@@ -181,7 +181,7 @@ const RAID1C4: Shape = Shape {
 
 // The key's offset, the place and the length of the item of checksums: those of the second sector.
 const HALF_SUMMED: Shape = Shape {
-    volume: RowVolume::W5,
+    volume: RowVolume::Raid5,
     changed: &["a", "b"],
     leaf: SUMS,
     fields: &[
@@ -221,7 +221,7 @@ const OTHER_SLICE: Pages = Pages {
 
 // The length of the second extent of data. The pages of some sectors behind it are kept.
 const UNSUMMED5: Shape = Shape {
-    volume: RowVolume::W5,
+    volume: RowVolume::Raid5,
     changed: &["a", "b"],
     leaf: EXTENTS,
     fields: &[Field {
@@ -239,7 +239,7 @@ const UNSUMMED5: Shape = Shape {
 };
 
 const UNSUMMED6: Shape = Shape {
-    volume: RowVolume::W6,
+    volume: RowVolume::Raid6,
     pages: &[OTHER_SLICE, BEHIND_DATA],
     ..UNSUMMED5
 };
@@ -261,9 +261,9 @@ const FILLED6: Shape = Shape {
     ..UNSUMMED6
 };
 
-// The length of the data chunk of `W5`, and where its first stripe begins.
+// The length of the data chunk of `Raid5`, and where its first stripe begins.
 const BESIDE_SUPER: Shape = Shape {
-    volume: RowVolume::W5,
+    volume: RowVolume::Raid5,
     changed: &["a", "b"],
     leaf: CHUNKS,
     fields: &[
@@ -393,7 +393,7 @@ fn build_with_some_older(alloc: Global, shape: &Shape, older: &[&str]) -> Result
     Ok(rack)
 }
 
-// A volume made of `W6`, whose second extent of data goes on without checksums too.
+// A volume made of `Raid6`, whose second extent of data goes on without checksums too.
 fn build_unsummed(alloc: Global, shape: &Shape, older: &str) -> Result<MemRack, Fail> {
     let mut rack = build_row(alloc, shape)?;
     for name in UNSUMMED6.changed {

@@ -11,14 +11,14 @@ use std::test::Fail;
 const DAMAGES: [Damage; 10] = [
     // A byte of P.
     Damage {
-        volume: Made::Row(RowVolume::W5),
+        volume: Made::Row(RowVolume::Raid5),
         mended: &[("c", 10485760)],
         left: &[],
         tally: Tally { parity: 1, ..CLEAN },
     },
     // A sector of data is lost, and its column's P is left; so is P where nothing is checked.
     Damage {
-        volume: Made::Row(RowVolume::W5),
+        volume: Made::Row(RowVolume::Raid5),
         mended: &[("c", 10489856)],
         left: &[("a", 10485760), ("c", 10485760), ("c", 10506240)],
         tally: Tally {
@@ -30,7 +30,7 @@ const DAMAGES: [Damage; 10] = [
     },
     // The same with Q; the other sector is made right by P, and its column's Q behind it.
     Damage {
-        volume: Made::Row(RowVolume::W6),
+        volume: Made::Row(RowVolume::Raid6),
         mended: &[("a", 10489861), ("d", 10489861)],
         left: &[("a", 10485760), ("c", 10485760), ("d", 10485760)],
         tally: Tally {
@@ -78,7 +78,7 @@ const DAMAGES: [Damage; 10] = [
     },
     // A sector beside two parities; and nothing but one of them.
     Damage {
-        volume: Made::Row(RowVolume::W6),
+        volume: Made::Row(RowVolume::Raid6),
         mended: &[("a", 10489861)],
         left: &[],
         tally: Tally {
@@ -88,7 +88,7 @@ const DAMAGES: [Damage; 10] = [
         },
     },
     Damage {
-        volume: Made::Row(RowVolume::W6),
+        volume: Made::Row(RowVolume::Raid6),
         mended: &[("d", 10489861)],
         left: &[],
         tally: Tally { parity: 1, ..CLEAN },

@@ -61,7 +61,7 @@ fn a_subvolume_in_another(rt: HostRuntime) -> Result<(), Fail> {
 // The file whose first sector is lost is made, and has no byte.
 #[test]
 fn a_lost_sector(rt: HostRuntime) -> Result<(), Fail> {
-    let mut rack = small(rt.alloc(), RowVolume::W5, &["b"])?;
+    let mut rack = small(rt.alloc(), RowVolume::Raid5, &["b"])?;
     let all = sent_from(&rt, rt.alloc(), 5, &mut rack, NOTHING)?;
     assert_eq!(rt; all.answer, Err(Stop::Tree(TreeFault::Lost(16777216))));
     assert!(rt; all.text.is_empty());

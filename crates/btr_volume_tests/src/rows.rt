@@ -35,8 +35,8 @@ fn small_volumes_open(rt: HostRuntime) -> Result<(), Fail> {
         (RowVolume::M1, &["a", "b"][..]),
         (RowVolume::M1, &["b", "a"][..]),
         (RowVolume::M1, &["b"][..]),
-        (RowVolume::W5, &["c", "b", "a"][..]),
-        (RowVolume::W6, &["b", "d"][..]),
+        (RowVolume::Raid5, &["c", "b", "a"][..]),
+        (RowVolume::Raid6, &["b", "d"][..]),
         (RowVolume::M3, &["c"][..]),
     ] {
         opens(&rt, rt.alloc(), &mut rack_of(rt.alloc(), which, names)?, 3)?;

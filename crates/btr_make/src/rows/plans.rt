@@ -14,8 +14,8 @@ pub(super) fn plan_of(which: RowVolume) -> Plan
     match which {
         RowVolume::V1d => DUPLICATED,
         RowVolume::V2 => MODERN,
-        RowVolume::W5 => RAID5_DATA,
-        RowVolume::W6 => RAID6_DATA,
+        RowVolume::Raid5 => RAID5_DATA,
+        RowVolume::Raid6 => RAID6_DATA,
         RowVolume::M1 => MIRRORED,
         RowVolume::M3 => THREE_COPIES,
         RowVolume::Rows5 => RAID5_ROWS,
