@@ -102,7 +102,8 @@ impl<R: Rack> Rack for AheadRack<R> {
         ensures images { TakesFromShelf name.now (R.seen self.old.rack) (R.seen self.new.rack) result }
         ensures unsynced { (R.seen self.new.rack).unsynced ≡ (R.seen self.old.rack).unsynced }
         ensures never_synced { (R.seen self.new.rack).never_synced ≡ (R.seen self.old.rack).never_synced }
-        ensures account { AccountsNextOpening name.now write (seen_ahead (R.seen self.old.rack) self.old.account) (seen_ahead (R.seen self.new.rack) self.new.account) result }
+        ensures account { AccountsNextOpening name.now write
+            (seen_ahead (R.seen self.old.rack) self.old.account) (seen_ahead (R.seen self.new.rack) self.new.account) result }
         ensures sure { OpensSurely name.now (seen_ahead (R.seen self.old.rack) self.old.account) (seen_ahead (R.seen self.new.rack) self.new.account) result }
 
         // No opening that failed was tried again.
@@ -157,7 +158,8 @@ impl<R: Rack> Rack for AheadRack<R> {
         requires write { IsTrue (opened_to_write (R.seen self.old.rack).slots slot) }
         requires range { off + length bytes.now ≤ len_of (R.seen self.old.rack).slots slot }
         ensures held { Writes slot off bytes.now (R.seen self.old.rack).held (R.seen self.new.rack).held result }
-        ensures rest { Unsyncs (range_in slot off (length bytes.now)) (seen_ahead (R.seen self.old.rack) self.old.account) (seen_ahead (R.seen self.new.rack) self.new.account) }
+        ensures rest { Unsyncs (range_in slot off (length bytes.now))
+            (seen_ahead (R.seen self.old.rack) self.old.account) (seen_ahead (R.seen self.new.rack) self.new.account) }
         ensures account { Accounts (range_in slot off (length bytes.now)) self.old.account self.new.account result }
         ensures sure { FailsUnsure false result }
 

@@ -31,9 +31,9 @@ impl DataAhead {
         }
     }
 
-    /// Whether the part that is read first for a sector passes for its want: then it comes to bytes. Where it isn't kept, that and at most `wanted` sectors from it on,
-    /// itself among them, are read first, as far as they lie behind one another in the image, and up to 262144 bytes. Where such a read failed, the
-    /// sectors that it was to read are read one by one, so that a bad sector isn't tried again for each one before it.
+    /// Whether the part that is read first for a sector passes for its want: then it comes to bytes. Where it isn't kept, that and at most `wanted`
+    /// sectors from it on, itself among them, are read first, as far as they lie behind one another in the image, and up to 262144 bytes. Where such a
+    /// read failed, the sectors that it was to read are read one by one, so that a bad sector isn't tried again for each one before it.
     ///
     /// `false` says that it doesn't pass where no read failed and some were wanted, and else nothing: a read that fails is answered so, and the rack is
     /// told to forget it. It takes no memory.

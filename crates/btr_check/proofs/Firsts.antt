@@ -8,7 +8,7 @@ use Rattle.btr_findings.proofs.Sets.{any-insert}
 use Rattle.btr_tour.specs.Tour.{Reached}
 use Rattle.btr_walk.specs.declared.place.RootPlace.{RootPlace}
 use Rattle.btr_check.specs.Trees.{is_among, place_of, place_cmp, first_met}
-use Rattle.btr_check.specs.Walking.{Places, no_places, with_place}
+use Rattle.btr_check.specs.Walking.{MetPlaces, no_places, with_place}
 use Rattle.btr_check.specs.declared.places.BlockId.{BlockId}
 
 -- places are in a total order
@@ -21,11 +21,11 @@ abbrev at : Reached → RootPlace
 at one = one.place
 
 -- the places with one that wasn't met before
-abbrev with_one : Places → RootPlace → Places
+abbrev with_one : MetPlaces → RootPlace → MetPlaces
 with_one places one = record { keys = insert_key place_cmp places.keys (place_of one); list = places.list ++ one ∷ [] }
 
 -- the places that are kept as some blocks are met
-abbrev kept : List Reached → Places → Places
+abbrev kept : List Reached → MetPlaces → MetPlaces
 kept all places = fold with_place places (map at all)
 
 -- where those of some blocks stand that weren't met before, each once
@@ -33,11 +33,11 @@ abbrev met_first : List BlockId → List Reached → List RootPlace
 met_first before all = map at (first_met before all)
 
 -- the places that are kept are, as a set, those that were met before
-abbrev Same : List BlockId → Places → Type 0
+abbrev Same : List BlockId → MetPlaces → Type 0
 Same before places = (q : BlockId) → is_among places.keys q ≡ is_among before q
 
 -- one that was met, or that wasn't
-met_one : (before : List BlockId) (one : Reached) (more : List Reached) (places : Places) (b : Bool) → is_among before (place_of one.place) ≡ b
+met_one : (before : List BlockId) (one : Reached) (more : List Reached) (places : MetPlaces) (b : Bool) → is_among before (place_of one.place) ≡ b
     → Same before places
     → (kept more places).list ≡ places.list ++ met_first before more
     → (kept more (with_one places one.place)).list ≡ (places.list ++ one.place ∷ []) ++ met_first (place_of one.place ∷ before) more
@@ -51,7 +51,7 @@ met_one before one more places false is same old new =
     ∙ ap (λ b. places.list ++ map at (if b then first_met before more else one ∷ first_met (place_of one.place ∷ before) more)) (sym is)
 
 -- as blocks are met, the places that are kept grow by those that weren't met before
-met_all : (before : List BlockId) (all : List Reached) (places : Places) → Same before places → (kept all places).list ≡ places.list ++ met_first before all
+met_all : (before : List BlockId) (all : List Reached) (places : MetPlaces) → Same before places → (kept all places).list ≡ places.list ++ met_first before all
 met_all before [] places same = sym (append-nil places.list)
 met_all before (one ∷ more) places same =
     met_one before one more places (is_among before (place_of one.place)) refl same (met_all before more places same)

@@ -8,7 +8,7 @@ use Rattle.btr_check.specs.Before.{wrong, first_of}
 use Rattle.btr_check.specs.Filesystem.{neighbours}
 use Rattle.btr_check.specs.Trees.{tree_of_item}
 use Rattle.btr_check.specs.Walks.{broken, range_of, not_apart, ranges_met}
-use Rattle.btr_check.specs.Walking.{RootSeen, or_first, trees_at, root_step, WalkSeen, Places, with_place, behind_last, or_last, place_met, range_at, walk_step}
+use Rattle.btr_check.specs.Walking.{RootSeen, or_first, trees_at, root_step, WalkSeen, MetPlaces, with_place, behind_last, or_last, place_met, range_at, walk_step}
 use Rattle.btr_check.specs.declared.walk.FileRange.{FileRange}
 use Rattle.btr_check.proofs.Lists.{one_more, first_more}
 
@@ -77,7 +77,7 @@ abbrev at : Reached → RootPlace
 at one = one.place
 
 -- the places that are kept after a mark, and after the blocks of the marks behind it
-places_more : (mark : Mark) (marks : List Mark) (places : Places) → fold with_place (place_met places mark) (map at (blocks_met marks)) ≡ fold with_place places
+places_more : (mark : Mark) (marks : List Mark) (places : MetPlaces) → fold with_place (place_met places mark) (map at (blocks_met marks)) ≡ fold with_place places
     (map at (blocks_met (mark ∷ marks)))
 places_more (Block place block) marks places = refl
 places_more (Child addr place) marks places = refl

@@ -28,7 +28,7 @@ use Rattle.btr_check.specs.Passing.{edge_of, joined, edges_of, Known, place_at, 
 use Rattle.btr_check.specs.Passing.{with_subtree, IsSubtreeKept, passed, WasMet, CanPass, subtree_marks}
 use Rattle.btr_check.specs.Passing.{children_marks, Knows, Walked}
 use Rattle.btr_check.specs.Trees.{is_among, place_of, place_cmp}
-use Rattle.btr_check.specs.Walking.{Places, WalkSeen, begun, behind_last, is_nothing, or_last, walk_step, with_place}
+use Rattle.btr_check.specs.Walking.{MetPlaces, WalkSeen, begun, behind_last, is_nothing, or_last, walk_step, with_place}
 use Rattle.btr_check.specs.Walks.{broken, not_apart, range_of, ranges_met}
 use Rattle.btr_check.proofs.Firsts.{place_total}
 use Rattle.btr_check.proofs.Folding.{apart_from, walked}
@@ -132,7 +132,7 @@ abbrev at : Reached → RootPlace
 at one = one.place
 
 -- blocks that were met leave the list of the places as it is
-all_met : (blocks : List Reached) (places : Places) → AllByRecursion (λ (one : Reached). is_among places.keys (place_of one.place) ≡ true) blocks
+all_met : (blocks : List Reached) (places : MetPlaces) → AllByRecursion (λ (one : Reached). is_among places.keys (place_of one.place) ≡ true) blocks
     → fold with_place places (map at blocks) ≡ places
 all_met [] places all = refl
 all_met (one ∷ more) places all =
@@ -159,7 +159,7 @@ pass_is seen marks edges can =
     λ i. record { kind = kind_is i; broken = broken_is i; overlapping = overlapping_is i; last = last i; places = places_are i }
 
 -- places that were met stay
-still_there : (places : Places) (q : BlockId) (place : RootPlace) → is_among places.keys q ≡ true → is_among (with_place places place).keys q ≡ true
+still_there : (places : MetPlaces) (q : BlockId) (place : RootPlace) → is_among places.keys q ≡ true → is_among (with_place places place).keys q ≡ true
 still_there places q place there = by (is_among places.keys (place_of place))
   where
     or_true : (b : Bool) → (b || true) ≡ true
@@ -184,7 +184,7 @@ place_is : (p : BlockId) → is_eq (place_cmp p p) ≡ true
 place_is p = ap is_eq (self_equal (place_cmp p p) (place_total.antisymm p p))
 
 -- a place that was met is among those that are kept
-now_there : (places : Places) (place : RootPlace) → is_among (with_place places place).keys (place_of place) ≡ true
+now_there : (places : MetPlaces) (place : RootPlace) → is_among (with_place places place).keys (place_of place) ≡ true
 now_there places place = by (is_among places.keys (place_of place)) refl
   where
     by : (b : Bool) → is_among places.keys (place_of place) ≡ b → is_among
@@ -196,12 +196,12 @@ now_there places place = by (is_among places.keys (place_of place)) refl
         ∙ ap (λ b. b || is_among places.keys (place_of place)) (place_is (place_of place))
 
 -- a place that is kept stays so as more are met
-stays_there : (list : List RootPlace) (places : Places) (q : BlockId) → is_among places.keys q ≡ true → is_among (fold with_place places list).keys q ≡ true
+stays_there : (list : List RootPlace) (places : MetPlaces) (q : BlockId) → is_among places.keys q ≡ true → is_among (fold with_place places list).keys q ≡ true
 stays_there [] places q there = there
 stays_there (place ∷ list) places q there = stays_there list (with_place places place) q (still_there places q place there)
 
 -- all blocks that were met stand at places that are kept
-all_there : (blocks : List Reached) (places : Places)
+all_there : (blocks : List Reached) (places : MetPlaces)
     → AllByRecursion (λ (one : Reached). is_among (fold with_place places (map at blocks)).keys (place_of one.place) ≡ true) blocks
 all_there [] places = tt
 all_there (one ∷ more) places =
@@ -219,7 +219,7 @@ can_pass_on old new marks behind edges is can =
       apart = can.apart;
       edges_are = can.edges_are;
       met = all-weaker (WasMet old) (WasMet new)
-          (λ (one : Reached) there. ap (λ (p : Places). is_among p.keys (place_of one.place)) places
+          (λ (one : Reached) there. ap (λ (p : MetPlaces). is_among p.keys (place_of one.place)) places
           ∙ stays_there (map at (blocks_met behind)) old.places (place_of one.place) there) (blocks_met marks) can.met;
     }
 
@@ -239,7 +239,7 @@ can_pass old new marks edges is edges_are sound =
       apart = apart_within old.last (ranges_met marks) overlapping_is.1;
       edges_are = edges_are;
       met = all-weaker (λ (one : Reached). is_among (fold with_place old.places (map at (blocks_met marks))).keys (place_of one.place) ≡ true) (WasMet new)
-          (λ (one : Reached) there. ap (λ (p : Places). is_among p.keys (place_of one.place)) places ∙ there) (blocks_met marks)
+          (λ (one : Reached) there. ap (λ (p : MetPlaces). is_among p.keys (place_of one.place)) places ∙ there) (blocks_met marks)
           (all_there (blocks_met marks) old.places);
     }
 

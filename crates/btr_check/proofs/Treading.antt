@@ -17,7 +17,7 @@ use Rattle.btr_check.specs.declared.subtrees.Edges.{Edges}
 use Rattle.btr_check.specs.Filesystem.{Filesystem, kind_of_sums}
 use Rattle.btr_check.specs.Passing.{Known, Knows, Walks, subtree_marks}
 use Rattle.btr_check.specs.Walks.{broken, tree_broken, tree_overlapping, ranges_met}
-use Rattle.btr_check.specs.Walking.{Places, WalkSeen, HasWalked, IsWalkOf, begun, walk_step, with_place, no_places, nothing_walked}
+use Rattle.btr_check.specs.Walking.{MetPlaces, WalkSeen, HasWalked, IsWalkOf, begun, walk_step, with_place, no_places, nothing_walked}
 
 -- what follows where a call answers
 pub on_ok : {A : Type 0} (r : Result A Stop) (P Q : Type 0) → (P → Q) → OnOk r P → OnOk r Q
@@ -69,7 +69,7 @@ module _ (fs : Filesystem) where
   walked_all trees seen h = record {
     broken = h.broken;
     overlapping = h.overlapping;
-    places = ap (λ (p : Places). p.list) h.places
+    places = ap (λ (p : MetPlaces). p.list) h.places
         ∙ met_once (flat_map blocks trees);
   }
 

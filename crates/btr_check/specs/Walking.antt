@@ -50,16 +50,16 @@ abbrev pub root_step : RootSeen → Mark → RootSeen
 root_step seen mark = record { kind = seen.kind; wrong = or_first seen.wrong (wrong seen.kind mark); trees = seen.trees ++ trees_at mark }
 
 -- the blocks that were met, as a set and in their order
-pub record Places : Type 0 where
+pub record MetPlaces : Type 0 where
   pub keys : List BlockId
   pub list : List RootPlace
 
 -- no blocks were met yet
-abbrev pub no_places : Places
+abbrev pub no_places : MetPlaces
 no_places = record { keys = []; list = [] }
 
 -- the blocks that were met with one more, each once
-abbrev pub with_place : Places → RootPlace → Places
+abbrev pub with_place : MetPlaces → RootPlace → MetPlaces
 with_place places place =
     if is_among places.keys (place_of place) then places
     else record { keys = insert_key place_cmp places.keys (place_of place); list = places.list ++ place ∷ [] }
@@ -71,7 +71,7 @@ pub record WalkSeen : Type 0 where
   pub broken : List Finding
   pub overlapping : List Finding
   pub last : Option FileRange
-  pub places : Places
+  pub places : MetPlaces
 
 -- what is kept of trees before the first mark
 abbrev pub nothing_walked : SumKind → WalkSeen
@@ -94,7 +94,7 @@ or_last last None = last
 or_last last (Some range) = Some range
 
 -- the blocks that were met after one more mark
-abbrev pub place_met : Places → Mark → Places
+abbrev pub place_met : MetPlaces → Mark → MetPlaces
 place_met places (Block place block) = with_place places place
 place_met places (Child addr place) = places
 place_met places (Item item) = places

@@ -13,9 +13,8 @@
 //! The definitions are in `specs/`: `Findings` is the list of all findings, and `Families` has what each pass finds. `Trees` and `Filesystem`
 //! say what is checked, `Before` why it isn't, `Walks` has what is wrong with the trees, `Passing` what is kept of a subtree, `Uses` what with
 //! extents that are used, `Data` what is lost of the data, `FileTrees` what is met of a tree of files, `SoundTrees` what is kept of sound ones,
-//! `Wanted`
-//! which blocks are wanted, and `Text` the lines; all else has its rules in `btr_check_names`, `btr_check_space` and `btr_check_sums`. `Running` is what each call that
-//! reads promises, and `Passes` what a pass puts.
+//! `Wanted` which blocks are wanted, and `Text` the lines; all else has its rules in `btr_check_names`, `btr_check_space` and `btr_check_sums`. `Running` is
+//! what each call that reads promises, and `Passes` what a pass puts.
 #![tactic(auto)]
 
 mod adding;

@@ -24,9 +24,9 @@ pub(crate) struct MetBlocks {
 }
 
 impl Model for MetBlocks {
-    ghost use Rattle.btr_check.specs.Walking.{Places};
+    ghost use Rattle.btr_check.specs.Walking.{MetPlaces};
 
-    ghost Value = { Places };
+    ghost Value = { MetPlaces };
 
     ghost view = { λ places. record { keys = places.keys.keys; list = places.list.items } };
 }

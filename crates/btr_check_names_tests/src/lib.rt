@@ -1,4 +1,5 @@
-//! What no clause of `btr_check_names` says, tested: the findings on small trees of files and of subvolumes' names, in each of which one rule is broken, and visits that meet their items.
+//! What no clause of `btr_check_names` says, tested: the findings on small trees of files and of subvolumes' names, in each of which one rule is broken,
+//! and visits that meet their items.
 #![tactic(auto)]
 
 #[cfg(test)]

@@ -92,7 +92,8 @@ fn count(
 ) -> Result<(), Memory>
     requires { AreTallied stored.now times.old others.old.entries }
     ensures kept { AreTallied stored.now times.new others.new.entries }
-    ensures counted { OnOk result (tallied stored.now times.new others.new.entries ≡ counted (tallied stored.now times.old others.old.entries) (record { key = key; count = 1 })) }
+    ensures counted { OnOk result
+        (tallied stored.now times.new others.new.entries ≡ counted (tallied stored.now times.old others.old.entries) (record { key = key; count = 1 })) }
 {
     match place(stored, &key) {
         Some(at) => count_again(&mut times[at]),

@@ -20,7 +20,7 @@ use Rattle.btr_listing.specs.Lines.{path_in}
 use Rattle.btr_restore.specs.Treating.{IsOver, came_to}
 use Rattle.btr_restore.specs.Listing.{StandsIf, ended_with, is_deep, listing_for, listing_in, within_for}
 use Rattle.btr_restore.specs.declared.job.Job.{Job}
-use Rattle.btr_restore.specs.Running.{Outside, World, world, Ran, RanFor, StandsBetween, StandsAfter, Wrote}
+use Rattle.btr_restore.specs.Running.{Outside, World, world, Ran, RanFor, StandsBetweenFiles, StandsAfter, Wrote}
 use Rattle.btr_listing.specs.Step.{Step, Up}
 use Rattle.btr_listing.proofs.Numbers.{is_other}
 use Rattle.btr_restore.proofs.Rans.{ran_halt, ran_then, ran_wrote, row_halt, row_then, wrote_none}
@@ -37,7 +37,7 @@ wrote_up plan counts x y (Err t) w = row_halt _ _ _ _ _ _ w
 
 -- a sink that stands in a directory stands one less deep after the way up
 pub stands_up : (dry : Bool) (n : ℕ) (old new : Sink) (r : Result (Unit {0}) TheStop) → (dry ≡ false → OnOk r (new ≡ left old))
-    → StandsBetween dry (n + 1) old → StandsIf dry n new r
+    → StandsBetweenFiles dry (n + 1) old → StandsIf dry n new r
 stands_up dry n old new (Ok u) after h = λ d.
     let is = after d in
     let was = h d in
@@ -63,12 +63,12 @@ listing_is plan s sums dirs below e = ap (listing_in plan s sums) (e ∙ step be
     step k = omega arith
 
 -- an entry that was treated wholly, and one that was entered
-pub stands_over : (dry : Bool) (n : ℕ) (s : Sink) (treated : Treated) → treated ≡ Over → StandsAfter dry n s (Ok treated) → StandsBetween dry n s
+pub stands_over : (dry : Bool) (n : ℕ) (s : Sink) (treated : Treated) → treated ≡ Over → StandsAfter dry n s (Ok treated) → StandsBetweenFiles dry n s
 stands_over dry n s treated is h = subst (λ (x : Treated). StandsAfter dry n s (Ok x)) is h
 
 -- where a directory was entered, the sink stands one deeper
 pub stands_within : (dry : Bool) (n : ℕ) (s : Sink) (treated : Treated) (tree : TreeRoot) (dirid : ℕ) → treated ≡ Within tree dirid
-    → StandsAfter dry n s (Ok treated) → StandsBetween dry (n + 1) s
+    → StandsAfter dry n s (Ok treated) → StandsBetweenFiles dry (n + 1) s
 stands_within dry n s treated tree dirid is h = subst (λ (x : Treated). StandsAfter dry n s (Ok x)) is h
 
 -- there are places for all directories that may still be entered

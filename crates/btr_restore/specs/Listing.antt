@@ -28,7 +28,7 @@ use Rattle.btr_files.specs.Maps.{maps_by}
 use Rattle.btr_restore.specs.declared.job.Job.{Job}
 use Rattle.btr_restore.specs.Journey.{Listing, Within, directory, listed_in, treat}
 use Rattle.btr_restore.specs.Restoring.{sink_after, text_after}
-use Rattle.btr_restore.specs.Running.{World, StandsBetween}
+use Rattle.btr_restore.specs.Running.{World, StandsBetweenFiles}
 use Rattle.btr_listing.specs.Step.{Step}
 
 -- whether directories are too deep, below which so many more may be entered
@@ -67,16 +67,16 @@ ended_with counts (Err stop) = Err stop
 
 -- a sink stands as deep as before, if the listing came to its end
 abbrev pub StandsIf : Bool → ℕ → Sink → Result (Unit {0}) Stop → Type 0
-StandsIf dry n sink (Ok u) = StandsBetween dry n sink
+StandsIf dry n sink (Ok u) = StandsBetweenFiles dry n sink
 StandsIf dry n sink (Err stop) = Unit {0}
 
 -- where a sink stood, it stands as deep after a listing that came to its end
 abbrev pub KeepsDepth : Bool → Sink → Sink → Result (Unit {0}) Stop → Type 0
-KeepsDepth dry old new result = (n : ℕ) → StandsBetween dry n old → StandsIf dry n new result
+KeepsDepth dry old new result = (n : ℕ) → StandsBetweenFiles dry n old → StandsIf dry n new result
 
 -- a sink stands one less deep after a listing that came to its end and leaves its directory
 abbrev pub LeavesDepth : Bool → Sink → Sink → Result (Unit {0}) Stop → Type 0
-LeavesDepth dry old new result = (n : ℕ) → StandsBetween dry (n + 1) old → StandsIf dry n new result
+LeavesDepth dry old new result = (n : ℕ) → StandsBetweenFiles dry (n + 1) old → StandsIf dry n new result
 
 -- the maps of some images, so surely known
 abbrev pub maps_of : Layout → Sure → List (List ℕ) → ℕ → Map

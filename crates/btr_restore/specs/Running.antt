@@ -118,15 +118,15 @@ abbrev pub KeepsSink : {T : Type 0} → Bool → T → T → Type 0
 KeepsSink dry old new = dry ≡ true → new ≡ old
 
 -- a sink stands between two files, so deep below the destination, unless the run is dry
-abbrev pub StandsBetween : Bool → ℕ → Sink → Type 0
-StandsBetween dry depth s = dry ≡ false → (s.stage ≡ BetweenFiles) × (s.depth ≡ depth)
+abbrev pub StandsBetweenFiles : Bool → ℕ → Sink → Type 0
+StandsBetweenFiles dry depth s = dry ≡ false → (s.stage ≡ BetweenFiles) × (s.depth ≡ depth)
 
 -- so it does after an entry; where a directory was entered it is one deeper
 abbrev pub StandsAfter : Bool → ℕ → Sink → Result Treated Stop → Type 0
-StandsAfter dry depth s (Ok Over) = StandsBetween dry depth s
-StandsAfter dry depth s (Ok (Within tree dirid)) = StandsBetween dry (depth + 1) s
+StandsAfter dry depth s (Ok Over) = StandsBetweenFiles dry depth s
+StandsAfter dry depth s (Ok (Within tree dirid)) = StandsBetweenFiles dry (depth + 1) s
 StandsAfter dry depth s (Err stop) = Unit {0}
 
 -- where a sink stood, it stands so after an entry
 abbrev pub KeepsStanding : Bool → Sink → Sink → Result Treated Stop → Type 0
-KeepsStanding dry old new result = (depth : ℕ) → StandsBetween dry depth old → StandsAfter dry depth new result
+KeepsStanding dry old new result = (depth : ℕ) → StandsBetweenFiles dry depth old → StandsAfter dry depth new result

@@ -222,9 +222,10 @@ fn restore_settled<R: Rack, T: TreeSink, O: Out>(
 /// The memory of a path of 131328 bytes and of 513 directories in one another is taken first, and nothing else takes any. Six slots of the volume are free.
 /// Each checksum of data is verified; a file with a sector that has none is named.
 ///
-/// `NoTree` comes exactly where there is no such subvolume, `Tree` where a block of a tree or of a file's data can't be had or is malformed, `Sink` and `Out` where the
-/// destination or the output failed, and `Memory` for want of memory. All that was done before stands: what waits in the destination is stored before
-/// another error than `Sink` is answered, and where that fails the answer is `Sink`. A dry run makes no call of the sink, whatever is answered.
+/// `NoTree` comes exactly where there is no such subvolume, `Tree` where a block of a tree or of a file's data can't be had or is malformed, `Sink` and
+/// `Out` where the destination or the output failed, and `Memory` for want of memory. All that was done before stands: what waits in the destination is
+/// stored before another error than `Sink` is answered, and where that fails the answer is `Sink`. A dry run makes no call of the sink, whatever is
+/// answered.
 pub fn restore<R: Rack, T: TreeSink, O: Out>(
     alloc: Global,
     plan: &RestorePlan,

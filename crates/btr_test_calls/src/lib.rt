@@ -1,8 +1,8 @@
 //! Calls of `run` over images, destinations and outputs in memory, for tests.
 //!
-//! `call`, `call_where` and `call_making` answer what came of a call as plain bytes. `super_of` reads a superblock of a volume of `btr_make`, and `five_files` are the
-//! rows of a restore of one. No public function has an `ensures`: what `run` promises is proved where it stands, and a test looks at what it does, so
-//! no test carries those facts.
+//! `call`, `call_where` and `call_making` answer what came of a call as plain bytes. `super_of` reads a superblock of a volume of `btr_make`, and
+//! `five_files` are the rows of a restore of one. No public function has an `ensures`: what `run` promises is proved where it stands, and a test looks at
+//! what it does, so no test carries those facts.
 #![tactic(auto)]
 
 mod calling;
